@@ -1,0 +1,51 @@
+-- Laws of entries, stretches and prices, over any arity. Assumes nothing.
+use Prim.Native.Nat.{ℕ, suc, _+_, _*_, _≤_, _<_, min}
+use mathlib.Core.Path.{_≡_, refl}
+use mathlib.Core.List.{List, [], _∷_}
+use native.Mathlib.Omega.{arith}
+use lib.Arith.{digits-lt}
+use Rattle.costs.specs.Range.{sumTo}
+use Rattle.costs.specs.Net.{Net, Costs, Sound, IsPlan, All, tuples, entry, start, entries, touched, price}
+use Rattle.costs.proofs.RangeLaws.{sumTo-same, sumTo-mono}
+use Rattle.costs.proofs.CostLaws.{plusTo-cap}
+
+pub All-map : {P Q : ℕ → Type 0} → ((v : ℕ) → P v → Q v) → (vs : List ℕ) → All P vs → All Q vs
+All-map f [] h = tt
+All-map f (v ∷ vs) h = (f v (h .0), All-map f vs (h .1))
+
+pub entry-lt : (size p : ℕ → ℕ) (vs : List ℕ) → All (λ v. p v < size v) vs → entry size p vs < tuples size vs
+entry-lt size p [] h = omega arith
+entry-lt size p (v ∷ vs) h = digits-lt (h .0) (entry-lt size p vs (h .1))
+
+-- a stretch ends where the next begins, and lies below E
+pub start-next : (n : Net) (s : ℕ) → start n s + tuples (n .size) (n .scope s) ≡ start n (suc s)
+start-next n s = refl
+
+pub stretch-below : (n : Net) (s : ℕ) → s < n .parts → start n s + tuples (n .size) (n .scope s) ≤ entries n
+stretch-below n s l = sumTo-mono (λ r. tuples (n .size) (n .scope r)) (suc s) (n .parts) l
+
+pub touched-below : (n : Net) → Sound n → (p : ℕ → ℕ) → IsPlan n p → (s : ℕ) → s < n .parts → touched n p s < entries n
+touched-below n good p plan s l =
+    omega (arith, entry-lt (n .size) p (n .scope s) (All-map (plan .range) (n .scope s) (good .inside s l)), stretch-below n s l)
+
+-- a variable's own stretch: as long as its size, and touched at its value
+pub tuples-unary : (n : Net) → Sound n → (v : ℕ) → v < n .vars → tuples (n .size) (n .scope v) ≡ n .size v
+tuples-unary n good v l = rw (good .unary v l) (omega arith)
+
+pub touched-unary : (n : Net) → Sound n → (p : ℕ → ℕ) (v : ℕ) → v < n .vars → touched n p v ≡ start n v + p v
+touched-unary n good p v l = rw (good .unary v l) (omega arith)
+
+-- the price is the capped plain sum
+pub price-capped : (n : Net) (c : Costs) (p : ℕ → ℕ) → price n c p ≡ min (n .cap) (c .base + sumTo (n .parts) (λ s. c .at (touched n p s)))
+unfolding price
+price-capped n c p = plusTo-cap (n .cap) (c .base) (n .parts) (λ s. c .at (touched n p s))
+
+-- plans that agree cost the same
+entry-same : (size p q : ℕ → ℕ) (vs : List ℕ) → All (λ v. p v ≡ q v) vs → entry size p vs ≡ entry size q vs
+entry-same size p q [] h = refl
+entry-same size p q (v ∷ vs) h = rw (h .0, entry-same size p q vs (h .1))
+
+pub price-same : (n : Net) → Sound n → (c : Costs) (p q : ℕ → ℕ) → ((v : ℕ) → v < n .vars → p v ≡ q v) → price n c p ≡ price n c q
+price-same n good c p q h =
+    let e = sumTo-same (n .parts) (λ s. c .at (touched n q s)) (λ s. c .at (touched n p s)) (λ s l. rw (entry-same (n .size) p q (n .scope s) (All-map h (n .scope s) (good .inside s l)))) in
+    rw (price-capped n c p, price-capped n c q, e)

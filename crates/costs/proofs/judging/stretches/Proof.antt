@@ -1,0 +1,83 @@
+use Prim.Native.Nat.{ℕ, _≤_, _<_, _+_, _-_, _*_, _^_}
+use mathlib.Core.Path.{_≡_, sym, _∙_}
+use native.Mathlib.Omega.{arith}
+use lib.ListN.{getD}
+use borrow.Author.Count.{below-more}
+use borrow.Author.Needs.{needs}
+use Rattle.costs.specs.Limits.{sizeMost}
+use Rattle.costs.specs.Net.{start}
+use Rattle.costs.specs.Networks.{netOf}
+use Rattle.costs.proofs.RowLaws.{start-unary, start-function, tuples-most}
+use Rattle.costs.proofs.JudgeLaws.{stretched-yes, stretched-no}
+use Rattle.costs.proofs.judging.stretches.Statement.{statement}
+use Rattle.costs.proofs.judging.stretches.Tie as tie
+
+abbrev Inv-loop : tie.InvT-loop
+Inv-loop sizes scopes starts vars functions at₀ f₀ at f = (f ≤ functions) × (at ≡ start (netOf 0 vars functions sizes scopes) (vars + f)) × (at ≤ vars * sizeMost + f * sizeMost ^ 3) × ((g : ℕ) → g < f → getD starts g 0 ≡ start (netOf 0 vars functions sizes scopes) (vars + g))
+
+abbrev μ-loop : tie.MeasureT-loop
+μ-loop sizes scopes starts vars functions at₀ f₀ at f = functions - f
+
+unary-entries-requires : tie.Need-unary-entries-requires Inv-loop μ-loop
+unary-entries-requires c κs = (search needs, c .pre .small)
+
+loop-holds : tie.Need-loop-holds Inv-loop μ-loop
+loop-holds c =
+    let s = c .before .args in
+    let e : s .vars + 0 ≡ s .vars = omega arith in
+    (search needs, rw (e, start-unary 0 (s .vars) (s .functions) (s .sizes .now) (s .scopes .now) (c .before .pre)) (c .unary-entries .ensures .0), omega (arith, c .unary-entries .ensures), λ g l. absurd (omega arith))
+
+start-at-requires : tie.Need-start-at-requires Inv-loop μ-loop
+start-at-requires c κs = search needs
+
+returns : tie.Need-returns Inv-loop μ-loop
+returns c = λ top.
+    let s = c .before .before .before .before .before .args in
+    stretched-no (netOf top (s .vars) (s .functions) (s .sizes .now) (s .scopes .now)) (s .functions) (s .starts .now) (c .before .before .before .loop .f) (omega arith)
+    (λ e. c .if1 .taken (c .before .start-at .ensures ∙ e ∙ sym (c .before .before .before .loop .inv .1)))
+
+tuples-of-requires : tie.Need-tuples-of-requires Inv-loop μ-loop
+tuples-of-requires c κs = search needs
+
+add-at : tie.Need-add-at Inv-loop μ-loop
+add-at c =
+    let s = c .before .before .before .before .before .before .args in
+    omega (arith, c .tuples-of .ensures, tuples-most (s .vars) (s .functions) (s .sizes .now) (s .scopes .now) (c .before .before .before .before .before .before .pre) (c .before .before .before .before .loop .f) (omega arith))
+
+add-f : tie.Need-add-f Inv-loop μ-loop
+add-f c = search needs
+
+loop-less : tie.Need-loop-less Inv-loop μ-loop
+loop-less c = search needs
+
+loop-again : tie.Need-loop-again Inv-loop μ-loop
+loop-again c =
+    let s = c .before .before .before .before .before .before .args in (
+      search needs,
+      rw (start-function, ← c .before .before .before .before .loop .inv .1, ← c .tuples-of .ensures),
+      omega (arith, c .tuples-of .ensures, tuples-most (s .vars) (s .functions) (s .sizes .now) (s .scopes .now) (c .before .before .before .before .before .before .pre) (c .before .before .before .before .loop .f) (omega arith)),
+      below-more _ _ (c .before .before .before .before .loop .inv .3) (sym (c .before .before .start-at .ensures) ∙ c .before .if1 .left ∙ c .before .before .before .before .loop .inv .1),
+    )
+
+returns-2 : tie.Need-returns-2 Inv-loop μ-loop
+returns-2 c = λ top.
+    let s = c .before .before .before .args in
+    let e : c .before .loop .f ≡ s .functions = omega arith in
+    rw (c .before .loop .inv .1, e) (stretched-yes (netOf top (s .vars) (s .functions) (s .sizes .now) (s .scopes .now)) (s .functions) (s .starts .now) (λ g l. c .before .loop .inv .3 g (omega arith)))
+
+pub stretches-spec : {M : Type 1} → statement M
+stretches-spec =
+    tie.close
+    (tie.spec
+    Inv-loop
+    μ-loop
+    unary-entries-requires
+    loop-holds
+    start-at-requires
+    returns
+    tuples-of-requires
+    add-at
+    add-f
+    loop-less
+    loop-again
+    returns-2)

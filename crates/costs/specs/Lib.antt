@@ -1,0 +1,10 @@
+pub mod Limits
+pub mod Range
+pub mod Cost
+pub mod Net
+pub mod Answers
+pub mod Networks
+pub mod Judging
+pub mod Plans
+pub mod Prices
+pub mod Examples
