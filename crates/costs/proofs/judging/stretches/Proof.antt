@@ -34,7 +34,7 @@ returns : tie.Need-returns Inv-loop μ-loop
 returns c = λ top.
     let s = c .before .before .before .before .before .args in
     stretched-no (netOf top (s .vars) (s .functions) (s .sizes .now) (s .scopes .now)) (s .functions) (s .starts .now) (c .before .before .before .loop .f) (omega arith)
-    (λ e. c .if1 .taken (c .before .start-at .ensures ∙ e ∙ sym (c .before .before .before .loop .inv .1)))
+    (λ e. omega (arith, e, c .before .start-at .ensures, c .before .before .before .loop .inv .1))
 
 tuples-of-requires : tie.Need-tuples-of-requires Inv-loop μ-loop
 tuples-of-requires c κs = search needs
@@ -56,7 +56,7 @@ loop-again c =
       search needs,
       rw (start-function, ← c .before .before .before .before .loop .inv .1, ← c .tuples-of .ensures),
       omega (arith, c .tuples-of .ensures, tuples-most (s .vars) (s .functions) (s .sizes .now) (s .scopes .now) (c .before .before .before .before .before .before .pre) (c .before .before .before .before .loop .f) (omega arith)),
-      below-more _ _ (c .before .before .before .before .loop .inv .3) (sym (c .before .before .start-at .ensures) ∙ c .before .if1 .left ∙ c .before .before .before .before .loop .inv .1),
+      below-more _ _ (c .before .before .before .before .loop .inv .3) (omega (arith, c .before .before .start-at .ensures, c .before .before .before .before .loop .inv .1)),
     )
 
 returns-2 : tie.Need-returns-2 Inv-loop μ-loop
