@@ -116,3 +116,17 @@ firstTo-below (suc n) t a l = go (ltb (firstTo n t) n) (lt→ltb (firstTo n t) n
       | yes q ↦ rw q (e refl)
       | no q ↦ elim (decLe (suc a) (firstTo n t)) [ yes q′ ↦ r q′ | no q′ ↦ absurd (f (omega arith)) ]
     ]
+
+-- and where there is one, it is one
+pub firstTo-at : (n : ℕ) (t : ℕ → Bool) → firstTo n t < n → T (t (firstTo n t))
+firstTo-at zero t l = absurd (omega arith)
+firstTo-at (suc n) t l = go (ltb (firstTo n t) n) (ltb→lt (firstTo n t) n) (firstTo-at n t) (t n) (λ x. x) l
+  where
+    go : (b : Bool) → (T b → firstTo n t < n) → (firstTo n t < n → T (t (firstTo n t))) → (c : Bool) → (T c → T (t n)) → cond b (firstTo n t) (cond c n (suc n)) < suc n
+        → T (t (cond b (firstTo n t) (cond c n (suc n))))
+    go true f r c e m = r (f tt)
+    go false f r true e m = e tt
+    go false f r false e m = absurd (omega arith)
+
+pub firstTo-some : (n : ℕ) (t : ℕ → Bool) (a : ℕ) → a < n → T (t a) → firstTo n t ≤ a
+firstTo-some n t a l h = elim (decLe (firstTo n t) a) [ yes q ↦ q | no q ↦ absurd (not-so (firstTo-below n t a (omega arith)) h) ]

@@ -1,0 +1,74 @@
+-- Laws of loops over the numbers below n. Assumes nothing.
+use Prim.Native.Nat.{ℕ, zero, suc, _+_, _*_, _≤_, _<_, min}
+use mathlib.Core.Path.{_≡_, refl, _∙_}
+use mathlib.Core.Bool.{Bool, true, false, cond}
+use native.Mathlib.Omega.{arith}
+use native.Mathlib.Nat.{suc-mul}
+use native.Mathlib.Numerals.{add-one}
+use native.Mathlib.Decide.{ℕ-discrete}
+use lib.Arith.{le-zero}
+use lib.Dec.{T}
+use Rattle.costs.proofs.TestLaws.{is-true}
+use Rattle.shifts.specs.Loops.{eachTo, leastTo}
+
+-- at i + 1, as a loop has it
+pub eachTo-next : {S : Type 0} (step : ℕ → S → S) (i : ℕ) (s : S) → eachTo step (i + 1) s ≡ step i (eachTo step i s)
+eachTo-next step i s = rw add-one
+
+pub leastTo-next : (k : ℕ) (counts : ℕ → Bool) (g : ℕ → ℕ) (i : ℕ) → leastTo k counts g (i + 1) ≡ min (leastTo k counts g i) (cond (counts i) (g i) k)
+leastTo-next k counts g i = rw add-one
+
+-- what every step keeps is kept
+pub each-keeps : {S : Type 0} (P : S → Type 0) (step : ℕ → S → S) (n : ℕ) → ((i : ℕ) → i < n → (x : S) → P x → P (step i x)) → (s : S) → P s → P (eachTo step n s)
+each-keeps P step zero h s x = x
+each-keeps P step (suc n) h s x = h n (omega arith) (eachTo step n s) (each-keeps P step n (λ i l. h i (omega arith)) s x)
+
+-- what step b makes true, and every step keeps, is true at the end
+pub each-makes : {S : Type 0} (Q : S → Type 0) (step : ℕ → S → S) (b n : ℕ) → b < n → ((x : S) → Q (step b x)) → ((i : ℕ) → i < n → (x : S) → Q x → Q (step i x)) → (s : S) → Q (eachTo step n s)
+each-makes Q step b zero l make keep s = absurd (omega arith)
+each-makes Q step b (suc n) l make keep s = elim (ℕ-discrete b n) [
+  | yes q ↦ rw q at (make (eachTo step n s))
+  | no q ↦ keep n (omega arith) (eachTo step n s) (each-makes Q step b n (omega arith) make (λ i m. keep i (omega arith)) s)
+]
+
+-- what each step adds at most
+pub each-adds : {S : Type 0} (m : S → ℕ) (step : ℕ → S → S) (k n : ℕ) → ((i : ℕ) → i < n → (x : S) → m (step i x) ≤ m x + k) → (s : S) → m (eachTo step n s) ≤ m s + n * k
+each-adds m step k zero h s = omega arith
+each-adds m step k (suc n) h s = omega (arith, suc-mul n k, h n (omega arith) (eachTo step n s), each-adds m step k n (λ i l. h i (omega arith)) s)
+
+-- the least is at most k and at most each that counts, and no less than what all of these are
+pub leastTo-cap : (k : ℕ) (counts : ℕ → Bool) (g : ℕ → ℕ) (n : ℕ) → leastTo k counts g n ≤ k
+leastTo-cap k counts g zero = omega arith
+leastTo-cap k counts g (suc n) = omega (arith, leastTo-cap k counts g n)
+
+pub leastTo-le : (k : ℕ) (counts : ℕ → Bool) (g : ℕ → ℕ) (n e : ℕ) → e < n → T (counts e) → leastTo k counts g n ≤ g e
+leastTo-le k counts g zero e l t = absurd (omega arith)
+leastTo-le k counts g (suc n) e l t = elim (ℕ-discrete e n) [
+  | yes q ↦ rw (q, is-true (counts n) (rw q at t)) (omega arith)
+  | no q ↦ omega (arith, leastTo-le k counts g n e (omega arith) t)
+]
+
+pub leastTo-ge : (k m : ℕ) (counts : ℕ → Bool) (g : ℕ → ℕ) (n : ℕ) → m ≤ k → ((e : ℕ) → e < n → T (counts e) → m ≤ g e) → m ≤ leastTo k counts g n
+leastTo-ge k m counts g zero l h = l
+leastTo-ge k m counts g (suc n) l h = omega (arith, leastTo-ge k m counts g n l (λ e x. h e (omega arith)), go (counts n) (h n (omega arith)))
+  where
+    go : (b : Bool) → (T b → m ≤ g n) → m ≤ cond b (g n) k
+    go true f = f tt
+    go false f = l
+
+-- steps that do nothing
+pub each-idle : {S : Type 0} (step : ℕ → S → S) (m n : ℕ) → m ≤ n → ((i : ℕ) → m ≤ i → i < n → (x : S) → step i x ≡ x) → (s : S) → eachTo step n s ≡ eachTo step m s
+each-idle step m zero l h s = rw (le-zero l)
+each-idle step m (suc n) l h s = elim (ℕ-discrete m (suc n)) [
+  | yes q ↦ rw q
+  | no q ↦ h n (omega arith) (omega arith) (eachTo step n s) ∙ each-idle step m n (omega arith) (λ i a b. h i a (omega arith)) s
+]
+
+-- what every step keeps between two runs is kept
+pub each-related : {S : Type 0} (R : S → S → Type 0) (step : ℕ → S → S) (n : ℕ) → ((i : ℕ) → i < n → (x y : S) → R x y → R (step i x) (step i y)) → (s r : S) → R s r → R (eachTo step n s) (eachTo step n r)
+each-related R step zero h s r x = x
+each-related R step (suc n) h s r x = h n (omega arith) (eachTo step n s) (eachTo step n r) (each-related R step n (λ i l. h i (omega arith)) s r x)
+
+pub leastTo-same : (k : ℕ) (counts : ℕ → Bool) (g h : ℕ → ℕ) (n : ℕ) → ((e : ℕ) → e < n → g e ≡ h e) → leastTo k counts g n ≡ leastTo k counts h n
+leastTo-same k counts g h zero e = refl
+leastTo-same k counts g h (suc n) e = rw (leastTo-same k counts g h n (λ i l. e i (omega arith)), e n (omega arith))

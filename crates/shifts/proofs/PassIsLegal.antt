@@ -1,0 +1,103 @@
+-- The pass's shifts are each legal in their turn and lead to its costs; its constant stays at most k. Assumes nothing.
+use Prim.Native.Nat.{ℕ, zero, suc, _+_, _-_, _≤_, _<_}
+use mathlib.Core.Path.{_≡_, refl, sym, ap}
+use mathlib.Core.Bool.{Bool, true, false, cond}
+use mathlib.Core.List.{List, [], _∷_, _++_}
+use native.Mathlib.Omega.{arith}
+use lib.Dec.{T}
+use Rattle.costs.specs.Net.{Net, Costs, Sound, All, tuples, start, price}
+use Rattle.costs.specs.Judging.{among}
+use Rattle.shifts.specs.declared.moves.Move.{Move}
+use Rattle.shifts.specs.declared.moves.Move.the-variants.{Project, Raise}
+use Rattle.shifts.specs.Nodes.{fixed, liveEntry, Fits}
+use Rattle.shifts.specs.Moves.{shifted, IsAmount, Gives, Legal, ran, LegalAll}
+use Rattle.shifts.specs.Passing.{Work, by, least, atValue, atScope, atVariable, pass}
+use Rattle.shifts.proofs.LoopLaws.{each-keeps, leastTo-cap, leastTo-le}
+use Rattle.shifts.proofs.PlaceLaws.{inStretch-entry}
+use Rattle.shifts.proofs.NodeLaws.{All-among, All-both}
+use Rattle.shifts.proofs.ShiftsKeepPrices.{shifts-keep-prices, ran-constant, ran-constant-below}
+
+-- each live tuple costs at least the least
+pub least-gives : (n : Net) (live : ℕ → ℕ → Bool) (c : Costs) (s : ℕ) → Gives n live c s (least n live c s)
+unfolding least
+least-gives n live c s j t =
+    let h = inStretch-entry _ _ _ j t in
+    rw (h .3) (leastTo-le (n .cap) (liveEntry (n .size) live (n .scope s)) (λ e. c .at (start n s + e)) (tuples (n .size) (n .scope s)) (h .0) (h .1) (h .2))
+
+pub least-cap : (n : Net) (live : ℕ → ℕ → Bool) (c : Costs) (s : ℕ) → least n live c s ≤ n .cap
+unfolding least
+least-cap n live c s = leastTo-cap (n .cap) (liveEntry (n .size) live (n .scope s)) _ (tuples (n .size) (n .scope s))
+
+-- what holds of either outcome of a test holds of its choice
+pub choose : (P : Work → Type 0) (b : Bool) (x y : Work) → (T b → P x) → P y → P (cond b x y)
+choose P true x y f g = f tt
+choose P false x y f g = g
+
+-- the variables of a function's scope are variables, and in its scope
+pub scope-members : (n : Net) → Sound n → (s : ℕ) → s < n .parts → All (λ i. (i < n .vars) × T (among i (n .scope s))) (n .scope s)
+scope-members n good s l = All-both (λ i. i < n .vars) (λ i. T (among i (n .scope s))) (n .scope s) (good .inside s l) (All-among (n .scope s))
+
+module _ (n : Net) (live : ℕ → ℕ → Bool) where
+  -- the shifts are legal in their turn from c on, and lead to the costs
+  pub record Led (c : Costs) (w : Work) : Type 0 where
+    pub legal : LegalAll n live c (w .shifts)
+    pub leads : ran n live c (w .shifts) ≡ w .costs
+
+  legal-more : (c : Costs) (xs : List Move) (x : Move) → LegalAll n live c xs → Legal n live (ran n live c xs) x → LegalAll n live c (xs ++ (x ∷ []))
+  legal-more c [] x h l = (l, tt)
+  legal-more c (y ∷ xs) x h l = (h .0, legal-more (shifted n live y c) xs x (h .1) l)
+
+  ran-more : (c : Costs) (xs : List Move) (x : Move) → ran n live c (xs ++ (x ∷ [])) ≡ shifted n live x (ran n live c xs)
+  ran-more c [] x = refl
+  ran-more c (y ∷ xs) x = ran-more (shifted n live y c) xs x
+
+  led-by : (c : Costs) (x : ℕ → Move) (m : ℕ) (w : Work) → Led c w → (1 ≤ m → Legal n live (w .costs) (x m)) → Led c (by n live x m w)
+  led-by c x zero w h l = h
+  led-by c x (suc m) w h l = record {
+    legal = legal-more c (w .shifts) (x (suc m)) (h .legal) (rw (h .leads) (l (omega arith)));
+    leads = rw (ran-more, h .leads);
+  }
+
+module _ (n : Net) (good : Sound n) (live : ℕ → ℕ → Bool) (c : Costs) where
+  led-value : (f i a : ℕ) → n .vars + f < n .parts → i < n .vars → T (among i (n .scope (n .vars + f))) → a < n .size i → (w : Work) → Led n live c w → Led n live c (atValue n live f i a w)
+  unfolding Legal
+  led-value f i a hf hi hs ha w h =
+      choose (Led n live c) (live i a) _ w
+      (λ t. led-by n live c (Project f i a) (least n (fixed live i a) (w .costs) (n .vars + f)) w h
+      (λ some. (
+        record { some = some; most = least-cap n (fixed live i a) (w .costs) (n .vars + f) },
+        record { function = hf; variable = hi; scoped = hs; value = ha; lives = t },
+        least-gives n (fixed live i a) (w .costs) (n .vars + f),
+      )))
+      h
+
+  led-scope : (f : ℕ) → n .vars + f < n .parts → (is : List ℕ) → All (λ i. (i < n .vars) × T (among i (n .scope (n .vars + f)))) is → (w : Work) → Led n live c w → Led n live c (atScope n live f is w)
+  led-scope f hf [] a w h = h
+  led-scope f hf (i ∷ is) a w h =
+      led-scope f hf is (a .1) _ (each-keeps (Led n live c) (atValue n live f i) (n .size i) (λ v l. led-value f i v hf (a .0 .0) (a .0 .1) l) w h)
+
+  led-variable : (i : ℕ) → i < n .vars → (w : Work) → Led n live c w → Led n live c (atVariable n live i w)
+  unfolding Legal
+  led-variable i l w h =
+      led-by n live c (Raise i) (least n live (w .costs) i) w h (λ some. (record { some = some; most = least-cap n live (w .costs) i }, l, least-gives n live (w .costs) i))
+
+  -- the pass's shifts are legal, each in its turn, and lead to its costs
+  pub pass-is-legal : Led n live c (pass n live c)
+  unfolding pass
+  pass-is-legal =
+      each-keeps (Led n live c) (atVariable n live) (n .vars) led-variable _
+      (each-keeps (Led n live c) (λ f. atScope n live f (n .scope (n .vars + f))) (n .parts - n .vars)
+      (λ f l. led-scope f (omega arith) (n .scope (n .vars + f)) (scope-members n good (n .vars + f) (omega arith)))
+      (record { costs = c; shifts = [] }) (record { legal = tt; leads = refl }))
+
+  -- so the constant stays at most k
+  pub pass-constant : c .base ≤ n .cap → pass n live c .costs .base ≤ n .cap
+  pass-constant h = rw (← (pass-is-legal .leads)) (ran-constant n live c (pass n live c .shifts) h)
+
+  -- it is at most the price of every plan that fits the node
+  pub pass-constant-below : c .base ≤ n .cap → (p : ℕ → ℕ) → Fits n live p → pass n live c .costs .base ≤ price n c p
+  pass-constant-below h p fits = rw (← (pass-is-legal .leads)) (ran-constant-below n good live c (pass n live c .shifts) h (pass-is-legal .legal) p fits)
+
+  -- and the worked costs price such a plan as the held ones do
+  pub pass-keeps-prices : (p : ℕ → ℕ) → Fits n live p → price n (pass n live c .costs) p ≡ price n c p
+  pass-keeps-prices p fits = rw (← (pass-is-legal .leads)) (shifts-keep-prices n good live p fits c (pass n live c .shifts) (pass-is-legal .legal))

@@ -1,0 +1,83 @@
+use Rattle.shifts.proofs.TurnLaws.{takes-next, scope-takes, projections-all}
+use Rattle.shifts.specs.Turns.{Turns}
+use Rattle.shifts.specs.Passing.{atScope}
+use Rattle.shifts.specs.Loops.{eachTo}
+use Prim.Native.Nat.{_≤_, _-_, _+_}
+use Rattle.shifts.specs.Nodes.{liveIn, fixed}
+use Rattle.costs.specs.Networks.{netOf}
+use lib.ListN.{length, getD}
+use mathlib.Core.Path.{_≡_, refl, sym, ap, _∙_}
+use native.Mathlib.Omega.{arith}
+use borrow.Author.Needs.{needs}
+use Rattle.shifts.proofs.passing.project_all.Statement.{statement}
+use Rattle.shifts.proofs.passing.project_all.Tie as tie
+
+abbrev Inv-loop : tie.InvT-loop
+Inv-loop table₀ sizes scopes starts firsts node top vars functions f₀ table f = (f ≤ functions) × (length table ≡ length table₀) × Turns (eachTo (λ x. atScope (netOf top vars functions sizes scopes) (liveIn sizes node) x (netOf top vars functions sizes scopes .scope (vars + x))) f) table₀ table
+
+abbrev μ-loop : tie.MeasureT-loop
+μ-loop table₀ sizes scopes starts firsts node top vars functions f₀ table f = functions - f
+
+loop-holds : tie.Need-loop-holds Inv-loop μ-loop
+loop-holds c =
+    let g = c .before in
+    let s = g .args in
+    let n = netOf (s .top) (s .vars) (s .functions) (s .sizes .now) (s .scopes .now) in
+    let live = liveIn (s .sizes .now) (s .node .now) in
+    (search needs, search needs, λ z w e. e)
+
+project-scope-requires : tie.Need-project-scope-requires Inv-loop μ-loop
+project-scope-requires c κs =
+    let g = c .before .before .before .before in
+    let s = g .args in
+    let n = netOf (s .top) (s .vars) (s .functions) (s .sizes .now) (s .scopes .now) in
+    let live = liveIn (s .sizes .now) (s .node .now) in
+    let k = c .before .before in
+    let q : length (k .loop .table) ≡ length (s .table .now) = k .loop .inv .1 in
+    (rw q (g .pre), search needs)
+
+add-f : tie.Need-add-f Inv-loop μ-loop
+add-f c = search needs
+
+loop-less : tie.Need-loop-less Inv-loop μ-loop
+loop-less c = search needs
+
+loop-again : tie.Need-loop-again Inv-loop μ-loop
+loop-again c =
+    let g = c .before .before .before .before .before .before .before in
+    let s = g .args in
+    let n = netOf (s .top) (s .vars) (s .functions) (s .sizes .now) (s .scopes .now) in
+    let live = liveIn (s .sizes .now) (s .node .now) in
+    let k = c .before .before .before .before .before in (
+      search needs,
+      search needs,
+      λ z. takes-next (λ f. atScope n live f (n .scope (s .vars + f))) (k .loop .f) z z z (s .table .now) (k .loop .table) (c .before .before .project-scope .last .0) (k .loop .inv .2 z)
+          (scope-takes (s .top) (s .vars) (s .functions) (s .sizes .now) (s .scopes .now) (s .node .now) (k .loop .f) (k .loop .table) (c .before .before .project-scope .last .0) (c .before .before .project-scope .ensures) z),
+    )
+
+same-length : tie.Need-same-length Inv-loop μ-loop
+same-length c = search needs
+
+returns : tie.Need-returns Inv-loop μ-loop
+returns c =
+    let g = c .before .before .before in
+    let s = g .args in
+    let n = netOf (s .top) (s .vars) (s .functions) (s .sizes .now) (s .scopes .now) in
+    let live = liveIn (s .sizes .now) (s .node .now) in
+    let k = c .before in
+    let e : k .loop .f ≡ s .functions = omega arith in
+    projections-all (s .top) (s .vars) (s .functions) (s .sizes .now) (s .scopes .now) (s .node .now) (s .table .now) (k .loop .table) (rw e at (k .loop .inv .2))
+
+pub project-all-spec : {M : Type 1} → statement M
+project-all-spec =
+    tie.close
+    (tie.spec
+    Inv-loop
+    μ-loop
+    loop-holds
+    project-scope-requires
+    add-f
+    loop-less
+    loop-again
+    same-length
+    returns)
