@@ -1,5 +1,5 @@
 -- One value more of a dimension is the box of the other dimensions, one stride on: the turn of every loop over a box, at any arity. Assumes nothing.
-use Prim.Native.Nat.{ℕ, zero, suc, _+_, _*_, _-_, _/_, _%_, _≤_, _<_, min}
+use Prim.Native.Nat.{ℕ, zero, suc, _+_, _*_, _/_, _%_, _≤_, _<_, min}
 use mathlib.Core.Path.{_≡_, refl, sym, ap, _∙_, fun-ext}
 use mathlib.Core.Bool.{Bool, true, false, cond, _&&_}
 use mathlib.Core.List.{List, [], _∷_}
@@ -9,10 +9,10 @@ use native.Mathlib.Decide.{ℕ-discrete, decLe}
 use lib.ListN.{getD, set, length}
 use lib.Seq.{getD-set-same, getD-set-other}
 use lib.Arith.{digits-lt, digits-div, digits-mod}
-use lib.Dec.{T, leb, ltb, leb→le, le→leb, ltb→lt, lt→ltb}
+use lib.Dec.{T, ltb, leb→le, le→leb, ltb→lt, lt→ltb}
 use Rattle.costs.proofs.TestLaws.{is-true, is-false, same-test, both, and}
 use Rattle.shifts.specs.Loops.{leastTo}
-use Rattle.shifts.specs.Places.{inStretch, on}
+use Rattle.shifts.specs.Places.{inStretch}
 use Rattle.shifts.specs.Boxes.{Dim, counts, range, room, inside, cells, boxOn, boxLeast}
 use Rattle.shifts.proofs.LoopLaws.{leastTo-cap, leastTo-le, leastTo-ge}
 use Rattle.shifts.proofs.PlaceLaws.{inStretch-entry, inStretch-range, inStretch-at}

@@ -1,23 +1,24 @@
 -- The public calls, as their code goes. Assumes nothing.
-use Prim.Native.Nat.{ℕ, _+_, _≤_, _<_, min}
-use mathlib.Core.Path.{_≡_, refl, sym, ap, _∙_}
-use mathlib.Core.Bool.{Bool, true, false, cond, _&&_}
+use Prim.Native.Nat.{ℕ, _≤_, _<_, min}
+use mathlib.Core.Path.{_≡_, sym, ap, _∙_}
+use mathlib.Core.Bool.{true, false}
 use mathlib.Core.List.{List}
 use native.Mathlib.Omega.{arith}
 use lib.ListN.{length, getD}
 use Rattle.costs.specs.declared.networks.Network.{Network}
 use Rattle.costs.specs.declared.answers.Answer.{Answer}
 use Rattle.costs.specs.declared.answers.Answer.the-variants.{Done, Illegal}
+use Rattle.costs.specs.declared.judging.Judged.{Judged}
 use Rattle.costs.specs.declared.judging.Judged.the-variants.{Entries, Refused}
 use Rattle.costs.specs.Range.{sumTo}
-use Rattle.costs.specs.Net.{Net, Costs, tuples, start, entries, costsOf}
+use Rattle.costs.specs.Net.{Costs, tuples, start, entries, costsOf}
 use Rattle.costs.specs.Networks.{stands, Scoped, netOf}
 use Rattle.costs.specs.Judging.{judged}
 use Rattle.costs.proofs.TestLaws.{so}
 use Rattle.costs.proofs.RangeLaws.{sumTo-same}
 use Rattle.costs.proofs.NetLaws.{tuples-unary}
 use Rattle.costs.proofs.RowLaws.{scoped-sound}
-use Rattle.costs.proofs.JudgeLaws.{Passed, judged-passed, network-ready}
+use Rattle.costs.proofs.JudgeLaws.{judged-passed, network-ready}
 use Rattle.shifts.specs.declared.nodes.Node.{Node}
 use Rattle.shifts.specs.declared.moves.Move.{Move}
 use Rattle.shifts.specs.Nodes.{liveAt, nodeGood}
@@ -31,6 +32,10 @@ start-first : (top vars functions : ℕ) (sizes rows : List ℕ) → Scoped vars
 start-first top vars functions sizes rows r v l =
     let n = netOf top vars functions sizes rows in
     sumTo-same v (λ w. getD sizes w 0) (λ w. tuples (n .size) (n .scope w)) (λ w m. tuples-unary n (scoped-sound top vars functions sizes rows r) w (omega arith))
+
+-- what the code was told of the judge's answer, in its own room
+pub told : (net : Network) (t : List ℕ) (room room′ : ℕ) (r x : Judged) → room ≡ room′ → r ≡ judged net t room → r ≡ x → x ≡ judged net t room′
+told net t room room′ r x q e h = rw (← q) (sym h ∙ e)
 
 -- what the judge and the test of the node have established
 pub laid-by : (net : Network) (t : List ℕ) (node : Node) (room size many : ℕ) (firsts : List ℕ) → Entries many ≡ judged net t room → room ≤ size → nodeGood (net .vars) (net .sizes) (node .fixed) ≡ true

@@ -1,7 +1,7 @@
 -- The test of a shift finds what the rule says. Assumes nothing.
 use Prim.Native.Nat.{ℕ, _+_, _≤_, _<_}
 use mathlib.Core.Bool.{Bool, true, false, not, _||_}
-use lib.Dec.{T, leb}
+use lib.Dec.{T}
 use Rattle.costs.specs.Net.{Net, Costs, tuples, start}
 use Rattle.costs.specs.Judging.{between, among}
 use Rattle.costs.proofs.TestLaws.{Decides, by-leb, by-ltb, by-self, by-and, by-map, by-all}

@@ -1,19 +1,18 @@
 -- What the code does to boxes is what the rules say of shifts: the costs that each shift leaves, and when it is legal. Assumes nothing.
-use Prim.Native.Nat.{ℕ, suc, _+_, _*_, _≤_, _<_, min}
+use Prim.Native.Nat.{ℕ, _+_, _*_, _≤_, _<_, min}
 use mathlib.Core.Path.{_≡_, refl, sym, ap, _∙_}
-use mathlib.Core.Bool.{Bool, true, false, cond, _&&_}
+use mathlib.Core.Bool.{Bool, true, false, _&&_}
 use mathlib.Core.List.{List, [], _∷_}
 use native.Mathlib.Omega.{arith}
 use lib.Dec.{T, leb, ltb, eqb, leb→le, le→leb, eqb→eq, eqb-refl}
-use lib.ListN.{length, getD}
-use Rattle.costs.specs.declared.answers.Answer.{Answer}
+use lib.ListN.{getD}
 use Rattle.costs.specs.declared.answers.Answer.the-variants.{Done, Illegal}
-use Rattle.costs.specs.Cost.{plus, minus}
+use Rattle.costs.specs.Cost.{plus}
 use Rattle.costs.specs.Net.{Net, Costs, tuples, start, entries, costsOf}
 use Rattle.costs.specs.Limits.{entriesMost}
 use Rattle.costs.specs.Networks.{inRow, scopeIn, netOf}
 use Rattle.costs.specs.Judging.{between, among}
-use Rattle.costs.proofs.TestLaws.{is-true, is-false, same-test, Decides, by-and, by-map}
+use Rattle.costs.proofs.TestLaws.{is-true, is-false, same-test, so, Decides, by-and, by-ltb, by-map}
 use Rattle.costs.proofs.JudgeLaws.{by-between}
 use Rattle.costs.proofs.RowLaws.{rest, rest-next, scope-unary, scope-function}
 use Rattle.costs.proofs.NetLaws.{stretch-below}
@@ -21,15 +20,13 @@ use Rattle.shifts.specs.declared.boxes.Span.{Span}
 use Rattle.shifts.specs.declared.boxes.Block.{Block}
 use Rattle.shifts.specs.declared.moves.Move.{Move}
 use Rattle.shifts.specs.declared.moves.Move.the-variants.{Project, Extend, Raise}
-use Rattle.shifts.specs.declared.outcomes.Outcome.{Outcome}
-use Rattle.shifts.specs.Loops.{leastTo}
 use Rattle.shifts.specs.Places.{on}
 use Rattle.shifts.specs.Boxes.{InSize, spanned, sides, cells, boxOn, boxLeast, changed}
 use Rattle.shifts.specs.Nodes.{liveIn, fixed, liveEntry, hit}
 use Rattle.shifts.specs.Moves.{shifted, gives, joins, isLegal}
 use Rattle.shifts.specs.Passing.{least}
-use Rattle.shifts.specs.Parts.{spanOf, liveSpan, childSpan, Holds, Laid}
-use Rattle.shifts.specs.Doors.{Left, leaves, tried}
+use Rattle.shifts.specs.Parts.{liveSpan, childSpan, Holds, Laid}
+use Rattle.shifts.specs.Doors.{leaves, tried}
 use Rattle.shifts.proofs.LoopLaws.{leastTo-ge}
 use Rattle.shifts.proofs.PlaceLaws.{costs-same, inStretch-at}
 use Rattle.shifts.proofs.LegalTests.{by-gives, by-joins}
@@ -185,6 +182,14 @@ by-exchange top vars functions sizes rows fx f i a m =
   where
     scope : netOf top vars functions sizes rows .scope (vars + f) ≡ scopeIn (inRow rows f)
     scope = scope-function top vars functions sizes rows f
+
+-- what their answers say, where they let a shift go on
+pub exchange-may : (top vars functions : ℕ) (sizes rows fx : List ℕ) (f i a m : ℕ) (r : Bool)
+    → r ≡ (between 1 top m && joins (netOf top vars functions sizes rows) (liveIn sizes fx) f i a) → r ≡ true → MayExchange top vars functions sizes rows fx f i a m
+exchange-may top vars functions sizes rows fx f i a m r e t = by-exchange top vars functions sizes rows fx f i a m .says (so (sym e ∙ t))
+
+pub raise-may : (top vars i m : ℕ) (r : Bool) → r ≡ (between 1 top m && ltb i vars) → r ≡ true → i < vars
+raise-may top vars i m r e t = by-and (by-between 1 top m) (by-ltb i vars) .says (so (sym e ∙ t)) .1
 
 pub by-live : (sizes fx : List ℕ) (v b : ℕ) → Decides (liveIn sizes fx v b) ((liveSpan sizes fx v .from ≤ b) × (b < liveSpan sizes fx v .to))
 by-live sizes fx v b = record {

@@ -1,13 +1,13 @@
 -- Laws of nodes: which tuples are live, and where a plan touches the table. Over any arity. Assumes nothing.
 use Prim.Native.Nat.{ℕ, zero, suc, _+_, _≤_, _<_}
 use mathlib.Core.Path.{_≡_, refl}
-use mathlib.Core.Bool.{Bool, true, false, cond, _||_}
+use mathlib.Core.Bool.{Bool, true, false, cond}
 use mathlib.Core.Logic.{_⊎_, inl, inr, ⊎-elim, _≢_}
 use mathlib.Core.List.{List, [], _∷_}
 use native.Mathlib.Omega.{arith}
 use native.Mathlib.Decide.{decLt}
 use lib.Arith.{digits-div, digits-mod}
-use lib.Dec.{T, leb, ltb, eqb, leb→le, le→leb, ltb→lt, eqb→eq, eqb-refl}
+use lib.Dec.{T, leb, eqb, leb→le, le→leb, ltb→lt, eqb→eq, eqb-refl}
 use lib.ListN.{getD}
 use Rattle.costs.specs.declared.networks.Network.{Network}
 use Rattle.costs.specs.Net.{Net, Sound, IsPlan, All, tuples, entry, start, entries, touched}

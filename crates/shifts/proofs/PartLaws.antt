@@ -1,28 +1,27 @@
 -- A part's live tuples are a box, at any arity: what the code's loops do to a box is what the rules say of the part. Assumes nothing.
 use Prim.Native.Nat.{ℕ, zero, suc, _+_, _-_, _*_, _/_, _%_, _≤_, _<_}
-use mathlib.Core.Path.{_≡_, refl, sym, ap, _∙_, fun-ext}
-use mathlib.Core.Bool.{Bool, true, false, cond, _&&_}
+use mathlib.Core.Path.{_≡_, refl, sym, _∙_, fun-ext}
+use mathlib.Core.Bool.{Bool, true, false, cond}
 use mathlib.Core.Logic.{_≢_}
 use mathlib.Core.List.{List, [], _∷_}
 use native.Mathlib.Omega.{arith}
 use native.Mathlib.Nat.{mul-one, mul-le-mul}
-use lib.Dec.{T, eqb, leb, ltb, leb→le, le→leb, ltb→lt, lt→ltb, eqb→eq, eqb-refl}
-use lib.ListN.{length, getD, take}
+use lib.Dec.{T, eqb, ltb, leb→le, le→leb, ltb→lt, lt→ltb, eqb→eq, eqb-refl}
+use lib.ListN.{getD, take}
 use Rattle.costs.specs.Limits.{sizeMost, entriesMost}
-use Rattle.costs.specs.Cost.{plus, minus}
-use Rattle.costs.specs.Net.{Net, Costs, All, tuples, start, entries, costsOf}
-use Rattle.costs.specs.Networks.{inRow, scopeIn, netOf, Ready, Scoped}
+use Rattle.costs.specs.Net.{Net, Costs, All, tuples, start}
+use Rattle.costs.specs.Networks.{inRow, scopeIn, netOf, Ready}
 use Rattle.costs.proofs.TestLaws.{is-true, is-false, same-test}
 use Rattle.costs.proofs.NetLaws.{stretch-below}
-use Rattle.costs.proofs.RowLaws.{scope-function, scope-unary}
+use Rattle.costs.proofs.RowLaws.{scope-function}
 use Rattle.shifts.specs.declared.boxes.Span.{Span}
 use Rattle.shifts.specs.declared.boxes.Block.{Block}
 use Rattle.shifts.specs.Places.{on}
-use Rattle.shifts.specs.Boxes.{Dim, counts, range, spanned, InSize, Sits, sides, room, inside, cells, boxOn, boxLeast}
+use Rattle.shifts.specs.Boxes.{Dim, counts, range, spanned, InSize, Sits, sides, room, inside, boxOn, boxLeast}
 use Rattle.shifts.specs.Nodes.{says, liveIn, fixed, liveEntry, hit}
 use Rattle.shifts.specs.Passing.{least}
 use Rattle.shifts.specs.Parts.{spanOf, liveSpan, childSpan, Holds}
-use Rattle.shifts.proofs.BoxLaws.{counts-both, counts-in, boxOn-unit, boxLeast-unit, boxOn-value, boxLeast-value}
+use Rattle.shifts.proofs.BoxLaws.{counts-both, counts-in, boxOn-unit, boxLeast-unit}
 
 -- a span has the live values
 fixed-span : (d a b : ℕ) → eqb b a ≡ counts (spanned (spanOf (suc a) d)) b

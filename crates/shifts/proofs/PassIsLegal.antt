@@ -1,6 +1,6 @@
 -- The pass's shifts are each legal in their turn and lead to its costs; its constant stays at most k. Assumes nothing.
 use Prim.Native.Nat.{ℕ, zero, suc, _+_, _-_, _≤_, _<_}
-use mathlib.Core.Path.{_≡_, refl, sym, ap}
+use mathlib.Core.Path.{_≡_, refl}
 use mathlib.Core.Bool.{Bool, true, false, cond}
 use mathlib.Core.List.{List, [], _∷_, _++_}
 use native.Mathlib.Omega.{arith}
@@ -10,7 +10,7 @@ use Rattle.costs.specs.Judging.{among}
 use Rattle.shifts.specs.declared.moves.Move.{Move}
 use Rattle.shifts.specs.declared.moves.Move.the-variants.{Project, Raise}
 use Rattle.shifts.specs.Nodes.{fixed, liveEntry, Fits}
-use Rattle.shifts.specs.Moves.{shifted, IsAmount, Gives, Legal, ran, LegalAll}
+use Rattle.shifts.specs.Moves.{shifted, Gives, Legal, ran, LegalAll}
 use Rattle.shifts.specs.Passing.{Work, by, least, atValue, atScope, atVariable, pass}
 use Rattle.shifts.proofs.LoopLaws.{each-keeps, leastTo-cap, leastTo-le}
 use Rattle.shifts.proofs.PlaceLaws.{inStretch-entry}

@@ -1,23 +1,22 @@
 -- The pass neither looks at nor changes table entries past E: done beside other entries there, it does the same. Assumes nothing.
 use Prim.Native.Nat.{ℕ, zero, suc, _+_, _-_, _≤_, _<_}
-use mathlib.Core.Path.{_≡_, refl, sym, ap, _∙_}
+use mathlib.Core.Path.{_≡_, refl, ap, _∙_}
 use mathlib.Core.Bool.{Bool, true, false, cond}
-use mathlib.Core.List.{List, [], _∷_}
+use mathlib.Core.List.{List, [], _∷_, _++_}
 use native.Mathlib.Omega.{arith}
 use borrow.Author.Tests.{ltb-false}
 use lib.Dec.{ltb, lt→ltb}
 use lib.ListN.{getD}
 use Rattle.costs.specs.Cost.{plus, minus}
 use Rattle.costs.specs.Net.{Net, Costs, Sound, All, tuples, start, entries}
-use Rattle.costs.proofs.TestLaws.{is-true, is-false}
+use Rattle.costs.proofs.TestLaws.{is-true}
 use Rattle.costs.proofs.NetLaws.{All-map, stretch-below}
 use Rattle.shifts.specs.declared.moves.Move.{Move}
 use Rattle.shifts.specs.declared.moves.Move.the-variants.{Project, Raise}
-use Rattle.shifts.specs.Loops.{eachTo, leastTo}
-use Rattle.shifts.specs.Places.{on, moved}
+use Rattle.shifts.specs.Places.{on}
 use Rattle.shifts.specs.Nodes.{fixed, liveEntry, hit}
 use Rattle.shifts.specs.Moves.{shifted}
-use Rattle.shifts.specs.Passing.{Work, by, least, atValue, atScope, projections, atVariable, pass}
+use Rattle.shifts.specs.Passing.{Work, by, least, atValue, atScope, atVariable, pass}
 use Rattle.shifts.specs.Doors.{upTo}
 use Rattle.shifts.proofs.LoopLaws.{each-related, leastTo-same}
 use Rattle.shifts.proofs.PlaceLaws.{costs-same}
@@ -57,14 +56,14 @@ module _ (n : Net) (live : ℕ → ℕ → Bool) (t : List ℕ) where
 
   -- two runs of the pass, one beside other entries
   abbrev Beside : Work → Work → Type 0
-  Beside w v = w .costs ≡ with (v .costs)
+  Beside w v = (w .costs ≡ with (v .costs)) × (w .shifts ≡ v .shifts)
 
   by-beside : (x : ℕ → Move) (m k : ℕ) (w v : Work) → m ≡ k → ((c : Costs) → shifted n live (x k) (with c) ≡ with (shifted n live (x k) c)) → Beside w v → Beside (by n live x m w) (by n live x k v)
   by-beside x m k w v e h b = rw e (go k h)
     where
       go : (k : ℕ) → ((c : Costs) → shifted n live (x k) (with c) ≡ with (shifted n live (x k) c)) → Beside (by n live x k w) (by n live x k v)
       go zero h = b
-      go (suc k) h = rw b (h (v .costs))
+      go (suc k) h = (rw (b .0) (h (v .costs)), ap (λ (xs : List Move). xs ++ (x (suc k) ∷ [])) (b .1))
 
   choose-beside : (b : Bool) (w w′ v v′ : Work) → Beside w v → Beside w′ v′ → Beside (cond b w w′) (cond b v v′)
   choose-beside true w w′ v v′ x y = x
@@ -73,7 +72,7 @@ module _ (n : Net) (live : ℕ → ℕ → Bool) (t : List ℕ) where
   value-beside : (f i : ℕ) → n .vars + f < n .parts → i < n .parts → (a : ℕ) (w v : Work) → Beside w v → Beside (atValue n live f i a w) (atValue n live f i a v)
   value-beside f i hf hi a w v b =
       choose-beside (live i a) _ w _ v
-      (by-beside (Project f i a) (least n (fixed live i a) (w .costs) (n .vars + f)) (least n (fixed live i a) (v .costs) (n .vars + f)) w v (rw b (least-beside (fixed live i a) (v .costs) (n .vars + f) hf)) (project-beside f i a _ hf hi) b)
+      (by-beside (Project f i a) (least n (fixed live i a) (w .costs) (n .vars + f)) (least n (fixed live i a) (v .costs) (n .vars + f)) w v (rw (b .0) (least-beside (fixed live i a) (v .costs) (n .vars + f) hf)) (project-beside f i a _ hf hi) b)
       b
 
   scope-beside : (f : ℕ) → n .vars + f < n .parts → (is : List ℕ) → All (λ i. i < n .parts) is → (w v : Work) → Beside w v → Beside (atScope n live f is w) (atScope n live f is v)
@@ -81,12 +80,18 @@ module _ (n : Net) (live : ℕ → ℕ → Bool) (t : List ℕ) where
   scope-beside f hf (i ∷ is) h w v b = scope-beside f hf is (h .1) _ _ (each-related Beside (atValue n live f i) (n .size i) (λ a l. value-beside f i hf (h .0) a) w v b)
 
   variable-beside : (i : ℕ) → i < n .parts → (w v : Work) → Beside w v → Beside (atVariable n live i w) (atVariable n live i v)
-  variable-beside i hi w v b = by-beside (Raise i) (least n live (w .costs) i) (least n live (v .costs) i) w v (rw b (least-beside live (v .costs) i hi)) (raise-beside i _ hi) b
+  variable-beside i hi w v b = by-beside (Raise i) (least n live (w .costs) i) (least n live (v .costs) i) w v (rw (b .0) (least-beside live (v .costs) i hi)) (raise-beside i _ hi) b
 
-  pub pass-stays-below : Sound n → (c : Costs) → pass n live (upTo (entries n) c t) .costs ≡ upTo (entries n) (pass n live c .costs) t
+  pass-beside : Sound n → (c : Costs) → Beside (pass n live (upTo (entries n) c t)) (pass n live c)
   unfolding pass
-  pass-stays-below good c =
+  pass-beside good c =
       each-related Beside (atVariable n live) (n .vars) (λ i l. variable-beside i (omega (arith, good .enough))) _ _
       (each-related Beside (λ f. atScope n live f (n .scope (n .vars + f))) (n .parts - n .vars)
       (λ f l. scope-beside f (omega arith) (n .scope (n .vars + f)) (All-map (λ i m. omega (arith, good .enough)) (n .scope (n .vars + f)) (good .inside (n .vars + f) (omega arith))))
-      (record { costs = with c; shifts = [] }) (record { costs = c; shifts = [] }) refl)
+      (record { costs = with c; shifts = [] }) (record { costs = c; shifts = [] }) (refl, refl))
+
+  pub pass-stays-below : Sound n → (c : Costs) → pass n live (upTo (entries n) c t) .costs ≡ upTo (entries n) (pass n live c .costs) t
+  pass-stays-below good c = pass-beside good c .0
+
+  pub pass-shifts-below : Sound n → (c : Costs) → pass n live (upTo (entries n) c t) .shifts ≡ pass n live c .shifts
+  pass-shifts-below good c = pass-beside good c .1

@@ -1,15 +1,14 @@
 -- The pass's steps on a lent table, as its loops make them. Assumes nothing.
-use Prim.Native.Nat.{ℕ, zero, suc, _+_, _-_, _≤_, _<_}
+use Prim.Native.Nat.{ℕ, zero, suc, _+_, _-_, _≤_}
 use mathlib.Core.Path.{_≡_, refl, sym, ap, _∙_}
-use mathlib.Core.Bool.{Bool, true, false, cond}
+use mathlib.Core.Bool.{Bool, true, false}
 use mathlib.Core.List.{List, [], _∷_}
 use native.Mathlib.Omega.{arith}
-use lib.ListN.{length, getD}
-use Rattle.costs.specs.Cost.{plus}
-use Rattle.costs.specs.Net.{Net, Costs, costsOf}
+use lib.ListN.{getD}
+use Rattle.costs.specs.Net.{Net, costsOf}
 use Rattle.costs.specs.Networks.{inRow, scopeIn, netOf}
 use Rattle.costs.proofs.TestLaws.{is-false}
-use Rattle.costs.proofs.RowLaws.{rest, rest-next, rest-end, scope-function}
+use Rattle.costs.proofs.RowLaws.{scope-function}
 use Rattle.shifts.specs.declared.boxes.Span.{Span}
 use Rattle.shifts.specs.declared.moves.Move.{Move}
 use Rattle.shifts.specs.declared.moves.Move.the-variants.{Project, Raise}

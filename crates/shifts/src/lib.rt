@@ -111,14 +111,14 @@ pub fn pass(net: Network, held: &[u64], work: &mut [u64], node: Node) -> Outcome
     }
 }
 
-fn shorter(a: usize, b: usize) -> usize
+pub fn shorter(a: usize, b: usize) -> usize
     ensures { λ r. ⌜ r ≡ min a b ⌝ }
 {
     if b < a { b } else { a }
 }
 
 // Zeros throughout.
-fn clear(table: &mut [u64])
+pub fn clear(table: &mut [u64])
     ensures { λ _. ⌜ ((z : ℕ) → costsOf z (now (table .exit)) ≡ record { base = z; at = λ j. 0 }) ⌝ }
 {
     let mut j: usize = 0;
@@ -129,7 +129,7 @@ fn clear(table: &mut [u64])
 }
 
 // The first entries of another table; the rest stays.
-fn copy_in(table: &mut [u64], from: &[u64], many: usize)
+pub fn copy_in(table: &mut [u64], from: &[u64], many: usize)
     requires { ⌜ (many ≤ length (now table)) × (many ≤ length (now from)) ⌝ }
     ensures { λ _. ⌜ ((z : ℕ) → costsOf z (now (table .exit)) ≡ upTo many (costsOf z (now (from .entry))) (now (table .entry))) ⌝ }
 {

@@ -1,9 +1,9 @@
-use Rattle.shifts.proofs.PlaceLaws.{costs-same, Stored, stored-none, stored-more}
-use lib.ListN.{length, getD, length-set}
-use native.Mathlib.Omega.{arith}
+use Prim.Native.Nat.{_≤_, _-_}
 use mathlib.Core.Path.{_≡_, refl}
-use Prim.Native.Nat.{ℕ, _≤_, _-_}
+use native.Mathlib.Omega.{arith}
+use lib.ListN.{length, getD, length-set}
 use borrow.Author.Needs.{needs}
+use Rattle.shifts.proofs.PlaceLaws.{costs-same, Stored, stored-none, stored-more}
 use Rattle.shifts.proofs.copy_in.Statement.{statement}
 use Rattle.shifts.proofs.copy_in.Tie as tie
 

@@ -1,11 +1,12 @@
-use Rattle.shifts.proofs.DoorLaws.{laid-by, pass-refused, pass-node, pass-done}
-use Rattle.costs.proofs.JudgeLaws.{judged-passed}
-use borrow.Author.Tests.{not-true, not-false}
-use lib.ListN.{length}
-use native.Mathlib.Omega.{arith}
-use mathlib.Core.Path.{_≡_, sym, _∙_}
 use Prim.Native.Nat.{min}
+use mathlib.Core.Path.{_≡_, sym, _∙_}
+use native.Mathlib.Omega.{arith}
+use lib.ListN.{length}
+use borrow.Author.Tests.{not-true, not-false}
 use borrow.Author.Needs.{needs}
+use Rattle.shifts.proofs.DoorLaws.{told, laid-by, pass-refused, pass-node, pass-done}
+use Rattle.costs.specs.declared.judging.Judged.the-variants.{Entries}
+use Rattle.costs.proofs.JudgeLaws.{judged-passed}
 use Rattle.shifts.proofs.pass.Statement.{statement}
 use Rattle.shifts.proofs.pass.Tie as tie
 
@@ -33,14 +34,14 @@ same-length c = search needs
 returns : tie.Need-returns
 returns c =
     let s = c .before .before .before .before .before .before .before .before .before .before .before .before .before .before .before .before .args in
-    let e = rw (c .before .before .before .before .before .before .before .before .before .before .before .before .before .shorter .ensures) at (sym (sym (c .before .before .before .before .before .before .before .before .judge .ensures) ∙ c .before .before .before .before .before .before .judged2 .given .1)) in
+    let e = told (s .t1) (s .held .now) (c .before .before .before .before .before .before .before .before .before .before .before .before .before .shorter .result) (min (length (s .held .now)) (length (s .work .now))) (c .before .before .before .before .before .before .before .before .judge .result) _ (c .before .before .before .before .before .before .before .before .before .before .before .before .before .shorter .ensures) (c .before .before .before .before .before .before .before .before .judge .ensures) (c .before .before .before .before .before .before .judged2 .given .1) in
     rw (c .refused .ensures) (pass-refused (s .t1) (s .held .now) (s .work .now) (s .t4) _ (c .before .before .before .clear .last .0) e (c .before .before .before .clear .ensures 0))
 
 node-good-requires : tie.Need-node-good-requires
 node-good-requires c κs =
     let s = c .before .before .before .before .before .before .before .before .before .before .before .before .before .before .before .args in
     let many = c .before .before .before .before .before .judged .given .0 .0 in
-    let e = rw (c .before .before .before .before .before .before .before .before .before .before .before .before .shorter .ensures) at (sym (sym (c .before .before .before .before .before .before .before .judge .ensures) ∙ c .before .before .before .before .before .judged .given .1)) in
+    let e = told (s .t1) (s .held .now) (c .before .before .before .before .before .before .before .before .before .before .before .before .shorter .result) (min (length (s .held .now)) (length (s .work .now))) (c .before .before .before .before .before .before .before .judge .result) (Entries many) (c .before .before .before .before .before .before .before .before .before .before .before .before .shorter .ensures) (c .before .before .before .before .before .before .before .judge .ensures) (c .before .before .before .before .before .judged .given .1) in
     judged-passed (s .t1) (s .held .now) (min (length (s .held .now)) (length (s .work .now))) many e .network .vars-few
 
 clear-requires-2 : tie.Need-clear-requires-2
@@ -56,21 +57,21 @@ returns-2 : tie.Need-returns-2
 returns-2 c =
     let s = c .before .before .before .before .before .before .before .before .before .before .before .before .before .before .before .before .before .before .before .before .before .before .args in
     let many = c .before .before .before .before .before .before .before .before .before .before .before .before .judged .given .0 .0 in
-    let e = rw (c .before .before .before .before .before .before .before .before .before .before .before .before .before .before .before .before .before .before .before .shorter .ensures) at (sym (sym (c .before .before .before .before .before .before .before .before .before .before .before .before .before .before .judge .ensures) ∙ c .before .before .before .before .before .before .before .before .before .before .before .before .judged .given .1)) in
-    rw (c .refused2 .ensures) (pass-node (s .t1) (s .held .now) (s .work .now) (s .t4) many (c .before .before .before .clear2 .last .0) e (sym (c .before .before .before .before .before .before .node-good .ensures) ∙ not-true _ (c .before .before .before .before .before .if1 .taken)) (c .before .before .before .clear2 .ensures 0))
+    let e = told (s .t1) (s .held .now) (c .before .before .before .before .before .before .before .before .before .before .before .before .before .before .before .before .before .before .before .shorter .result) (min (length (s .held .now)) (length (s .work .now))) (c .before .before .before .before .before .before .before .before .before .before .before .before .before .before .judge .result) (Entries many) (c .before .before .before .before .before .before .before .before .before .before .before .before .before .before .before .before .before .before .before .shorter .ensures) (c .before .before .before .before .before .before .before .before .before .before .before .before .before .before .judge .ensures) (c .before .before .before .before .before .before .before .before .before .before .before .before .judged .given .1) in
+    rw (c .refused2 .ensures) (pass-node (s .t1) (s .held .now) (s .work .now) (s .t4) many (c .before .before .before .clear2 .last .0) e (sym (c .before .before .before .before .before .before .node-good .ensures) ∙ not-true (c .before .before .before .before .before .before .node-good .result) (c .before .before .before .before .before .if1 .taken)) (c .before .before .before .clear2 .ensures 0))
 
 copy-in-requires : tie.Need-copy-in-requires
 copy-in-requires c κs =
     let s = c .before .before .before .before .before .before .before .before .before .before .before .before .before .before .before .before .before .before .args in
     let many = c .before .before .before .before .before .before .before .before .judged .given .0 .0 in
-    let e = rw (c .before .before .before .before .before .before .before .before .before .before .before .before .before .before .before .shorter .ensures) at (sym (sym (c .before .before .before .before .before .before .before .before .before .before .judge .ensures) ∙ c .before .before .before .before .before .before .before .before .judged .given .1)) in
+    let e = told (s .t1) (s .held .now) (c .before .before .before .before .before .before .before .before .before .before .before .before .before .before .before .shorter .result) (min (length (s .held .now)) (length (s .work .now))) (c .before .before .before .before .before .before .before .before .before .before .judge .result) (Entries many) (c .before .before .before .before .before .before .before .before .before .before .before .before .before .before .before .shorter .ensures) (c .before .before .before .before .before .before .before .before .before .before .judge .ensures) (c .before .before .before .before .before .before .before .before .judged .given .1) in
     omega (arith, judged-passed (s .t1) (s .held .now) (min (length (s .held .now)) (length (s .work .now))) many e .roomy)
 
 unary-starts-requires : tie.Need-unary-starts-requires
 unary-starts-requires c κs =
     let s = c .before .before .before .before .before .before .before .before .before .before .before .before .before .before .before .before .before .before .before .before .before .before .before .args in
     let many = c .before .before .before .before .before .before .before .before .before .before .before .before .before .judged .given .0 .0 in
-    let e = rw (c .before .before .before .before .before .before .before .before .before .before .before .before .before .before .before .before .before .before .before .before .shorter .ensures) at (sym (sym (c .before .before .before .before .before .before .before .before .before .before .before .before .before .before .before .judge .ensures) ∙ c .before .before .before .before .before .before .before .before .before .before .before .before .before .judged .given .1)) in
+    let e = told (s .t1) (s .held .now) (c .before .before .before .before .before .before .before .before .before .before .before .before .before .before .before .before .before .before .before .before .shorter .result) (min (length (s .held .now)) (length (s .work .now))) (c .before .before .before .before .before .before .before .before .before .before .before .before .before .before .before .judge .result) (Entries many) (c .before .before .before .before .before .before .before .before .before .before .before .before .before .before .before .before .before .before .before .before .shorter .ensures) (c .before .before .before .before .before .before .before .before .before .before .before .before .before .before .before .judge .ensures) (c .before .before .before .before .before .before .before .before .before .before .before .before .before .judged .given .1) in
     let p = judged-passed (s .t1) (s .held .now) (min (length (s .held .now)) (length (s .work .now))) many e .network in
     (p .vars-few, λ v l. p .sizes v l .1)
 
@@ -78,9 +79,9 @@ pass-over-requires : tie.Need-pass-over-requires
 pass-over-requires c κs =
     let s = c .before .before .before .before .before .before .before .before .before .before .before .before .before .before .before .before .before .before .before .before .before .before .before .before .before .before .before .before .before .before .before .before .args in
     let many = c .before .before .before .before .before .before .before .before .before .before .before .before .before .before .before .before .before .before .before .before .before .before .judged .given .0 .0 in
-    let e = rw (c .before .before .before .before .before .before .before .before .before .before .before .before .before .before .before .before .before .before .before .before .before .before .before .before .before .before .before .before .before .shorter .ensures) at (sym (sym (c .before .before .before .before .before .before .before .before .before .before .before .before .before .before .before .before .before .before .before .before .before .before .before .before .judge .ensures) ∙ c .before .before .before .before .before .before .before .before .before .before .before .before .before .before .before .before .before .before .before .before .before .before .judged .given .1)) in
+    let e = told (s .t1) (s .held .now) (c .before .before .before .before .before .before .before .before .before .before .before .before .before .before .before .before .before .before .before .before .before .before .before .before .before .before .before .before .before .shorter .result) (min (length (s .held .now)) (length (s .work .now))) (c .before .before .before .before .before .before .before .before .before .before .before .before .before .before .before .before .before .before .before .before .before .before .before .before .judge .result) (Entries many) (c .before .before .before .before .before .before .before .before .before .before .before .before .before .before .before .before .before .before .before .before .before .before .before .before .before .before .before .before .before .shorter .ensures) (c .before .before .before .before .before .before .before .before .before .before .before .before .before .before .before .before .before .before .before .before .before .before .before .before .judge .ensures) (c .before .before .before .before .before .before .before .before .before .before .before .before .before .before .before .before .before .before .before .before .before .before .judged .given .1) in
     let q : length (c .before .before .before .before .before .before .before .before .before .before .before .before .before .copy-in .last .0) ≡ length (s .work .now) = omega (arith, c .before .before .before .before .before .before .before .before .before .before .before .before .before .copy-in .kept .0) in
-    (rw q (laid-by (s .t1) (s .held .now) (s .t4) (min (length (s .held .now)) (length (s .work .now))) (length (s .work .now)) many (c .before .before .before .before .before .before .before .before .unary-starts .result) e (omega arith) (sym (c .before .before .before .before .before .before .before .before .before .before .before .before .before .before .before .before .node-good .ensures) ∙ not-false _ (c .before .before .before .before .before .before .before .before .before .before .before .before .before .before .before .if1 .left)) (c .before .before .before .before .before .before .before .before .unary-starts .ensures)), judged-passed (s .t1) (s .held .now) (min (length (s .held .now)) (length (s .work .now))) many e .network .constant)
+    (rw q (laid-by (s .t1) (s .held .now) (s .t4) (min (length (s .held .now)) (length (s .work .now))) (length (s .work .now)) many (c .before .before .before .before .before .before .before .before .unary-starts .result) e (omega arith) (sym (c .before .before .before .before .before .before .before .before .before .before .before .before .before .before .before .before .node-good .ensures) ∙ not-false (c .before .before .before .before .before .before .before .before .before .before .before .before .before .before .before .before .node-good .result) (c .before .before .before .before .before .before .before .before .before .before .before .before .before .before .before .if1 .left)) (c .before .before .before .before .before .before .before .before .unary-starts .ensures)), judged-passed (s .t1) (s .held .now) (min (length (s .held .now)) (length (s .work .now))) many e .network .constant)
 
 same-length-3 : tie.Need-same-length-3
 same-length-3 c = search needs
@@ -89,8 +90,8 @@ returns-3 : tie.Need-returns-3
 returns-3 c =
     let s = c .before .before .before .before .before .before .before .before .before .before .before .before .before .before .before .before .before .before .before .before .before .before .before .before .before .before .before .before .before .before .before .before .before .before .before .args in
     let many = c .before .before .before .before .before .before .before .before .before .before .before .before .before .before .before .before .before .before .before .before .before .before .before .before .before .judged .given .0 .0 in
-    let e = rw (c .before .before .before .before .before .before .before .before .before .before .before .before .before .before .before .before .before .before .before .before .before .before .before .before .before .before .before .before .before .before .before .before .shorter .ensures) at (sym (sym (c .before .before .before .before .before .before .before .before .before .before .before .before .before .before .before .before .before .before .before .before .before .before .before .before .before .before .before .judge .ensures) ∙ c .before .before .before .before .before .before .before .before .before .before .before .before .before .before .before .before .before .before .before .before .before .before .before .before .before .judged .given .1)) in
-    pass-done (s .t1) (s .held .now) (s .work .now) (s .t4) many (c .before .before .pass-over .result) (c .before .before .before .before .before .before .before .before .before .before .before .before .before .before .before .before .copy-in .last .0) (c .before .before .pass-over .last .0) e (sym (c .before .before .before .before .before .before .before .before .before .before .before .before .before .before .before .before .before .before .before .node-good .ensures) ∙ not-false _ (c .before .before .before .before .before .before .before .before .before .before .before .before .before .before .before .before .before .before .if1 .left)) (c .before .before .before .before .before .before .before .before .before .before .before .before .before .before .before .before .copy-in .ensures) (c .before .before .pass-over .ensures)
+    let e = told (s .t1) (s .held .now) (c .before .before .before .before .before .before .before .before .before .before .before .before .before .before .before .before .before .before .before .before .before .before .before .before .before .before .before .before .before .before .before .before .shorter .result) (min (length (s .held .now)) (length (s .work .now))) (c .before .before .before .before .before .before .before .before .before .before .before .before .before .before .before .before .before .before .before .before .before .before .before .before .before .before .before .judge .result) (Entries many) (c .before .before .before .before .before .before .before .before .before .before .before .before .before .before .before .before .before .before .before .before .before .before .before .before .before .before .before .before .before .before .before .before .shorter .ensures) (c .before .before .before .before .before .before .before .before .before .before .before .before .before .before .before .before .before .before .before .before .before .before .before .before .before .before .before .judge .ensures) (c .before .before .before .before .before .before .before .before .before .before .before .before .before .before .before .before .before .before .before .before .before .before .before .before .before .judged .given .1) in
+    pass-done (s .t1) (s .held .now) (s .work .now) (s .t4) many (c .before .before .pass-over .result) (c .before .before .before .before .before .before .before .before .before .before .before .before .before .before .before .before .copy-in .last .0) (c .before .before .pass-over .last .0) e (sym (c .before .before .before .before .before .before .before .before .before .before .before .before .before .before .before .before .before .before .before .node-good .ensures) ∙ not-false (c .before .before .before .before .before .before .before .before .before .before .before .before .before .before .before .before .before .before .before .node-good .result) (c .before .before .before .before .before .before .before .before .before .before .before .before .before .before .before .before .before .before .if1 .left)) (c .before .before .before .before .before .before .before .before .before .before .before .before .before .before .before .before .copy-in .ensures) (c .before .before .pass-over .ensures)
 
 pub pass-spec : {M : Type 1} → statement M
 pass-spec =

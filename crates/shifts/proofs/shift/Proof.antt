@@ -1,10 +1,11 @@
-use Rattle.shifts.proofs.DoorLaws.{laid-by, shift-refused, shift-node, shift-tried}
-use Rattle.costs.proofs.JudgeLaws.{judged-passed}
-use borrow.Author.Tests.{not-true, not-false}
-use lib.ListN.{length}
+use mathlib.Core.Path.{refl, sym, _∙_}
 use native.Mathlib.Omega.{arith}
-use mathlib.Core.Path.{sym, _∙_}
+use lib.ListN.{length}
+use borrow.Author.Tests.{not-true, not-false}
 use borrow.Author.Needs.{needs}
+use Rattle.shifts.proofs.DoorLaws.{told, laid-by, shift-refused, shift-node, shift-tried}
+use Rattle.costs.specs.declared.judging.Judged.the-variants.{Entries}
+use Rattle.costs.proofs.JudgeLaws.{judged-passed}
 use Rattle.shifts.proofs.shift.Statement.{statement}
 use Rattle.shifts.proofs.shift.Tie as tie
 
@@ -23,7 +24,7 @@ same-length c = search needs
 returns : tie.Need-returns
 returns c =
     let s = c .before .before .before .before .before .before .before .before .before .before .before .args in
-    rw (c .refused .ensures) (shift-refused (s .t1) (s .table .now) (s .t3) (s .one) _ (sym (sym (c .before .before .before .before .judge .ensures) ∙ c .before .before .judged .given .1)))
+    rw (c .refused .ensures) (shift-refused (s .t1) (s .table .now) (s .t3) (s .one) _ (told (s .t1) (s .table .now) (length (s .table .now)) (length (s .table .now)) (c .before .before .before .before .judge .result) _ refl (c .before .before .before .before .judge .ensures) (c .before .before .judged .given .1)))
 
 enum-told : tie.Need-enum-told
 enum-told c = search needs
@@ -32,7 +33,7 @@ node-good-requires : tie.Need-node-good-requires
 node-good-requires c κs =
     let s = c .before .before .before .before .before .before .before .before .before .before .before .before .before .args in
     let many = c .before .before .before .before .enum-told .given .0 .0 in
-    let e = sym (sym (c .before .before .before .before .before .before .judge .ensures) ∙ c .before .before .before .before .enum-told .given .1) in
+    let e = told (s .t1) (s .table .now) (length (s .table .now)) (length (s .table .now)) (c .before .before .before .before .before .before .judge .result) (Entries many) refl (c .before .before .before .before .before .before .judge .ensures) (c .before .before .before .before .enum-told .given .1) in
     judged-passed (s .t1) (s .table .now) (length (s .table .now)) many e .network .vars-few
 
 refused-requires-2 : tie.Need-refused-requires-2
@@ -45,14 +46,14 @@ returns-2 : tie.Need-returns-2
 returns-2 c =
     let s = c .before .before .before .before .before .before .before .before .before .before .before .before .before .before .before .before .args in
     let many = c .before .before .before .before .before .before .before .enum-told .given .0 .0 in
-    let e = sym (sym (c .before .before .before .before .before .before .before .before .before .judge .ensures) ∙ c .before .before .before .before .before .before .before .enum-told .given .1) in
-    rw (c .refused2 .ensures) (shift-node (s .t1) (s .table .now) (s .t3) (s .one) many e (sym (c .before .before .node-good .ensures) ∙ not-true _ (c .before .if1 .taken)))
+    let e = told (s .t1) (s .table .now) (length (s .table .now)) (length (s .table .now)) (c .before .before .before .before .before .before .before .before .before .judge .result) (Entries many) refl (c .before .before .before .before .before .before .before .before .before .judge .ensures) (c .before .before .before .before .before .before .before .enum-told .given .1) in
+    rw (c .refused2 .ensures) (shift-node (s .t1) (s .table .now) (s .t3) (s .one) many e (sym (c .before .before .node-good .ensures) ∙ not-true (c .before .before .node-good .result) (c .before .if1 .taken)))
 
 unary-starts-requires : tie.Need-unary-starts-requires
 unary-starts-requires c κs =
     let s = c .before .before .before .before .before .before .before .before .before .before .before .before .before .before .before .before .before .args in
     let many = c .before .before .before .before .before .before .before .before .enum-told .given .0 .0 in
-    let e = sym (sym (c .before .before .before .before .before .before .before .before .before .before .judge .ensures) ∙ c .before .before .before .before .before .before .before .before .enum-told .given .1) in
+    let e = told (s .t1) (s .table .now) (length (s .table .now)) (length (s .table .now)) (c .before .before .before .before .before .before .before .before .before .before .judge .result) (Entries many) refl (c .before .before .before .before .before .before .before .before .before .before .judge .ensures) (c .before .before .before .before .before .before .before .before .enum-told .given .1) in
     let p = judged-passed (s .t1) (s .table .now) (length (s .table .now)) many e .network in
     (p .vars-few, λ v l. p .sizes v l .1)
 
@@ -60,8 +61,8 @@ try-shift-requires : tie.Need-try-shift-requires
 try-shift-requires c κs =
     let s = c .before .before .before .before .before .before .before .before .before .before .before .before .before .before .before .before .before .before .before .before .before .before .before .before .before .before .args in
     let many = c .before .before .before .before .before .before .before .before .before .before .before .before .before .before .before .before .before .enum-told .given .0 .0 in
-    let e = sym (sym (c .before .before .before .before .before .before .before .before .before .before .before .before .before .before .before .before .before .before .before .judge .ensures) ∙ c .before .before .before .before .before .before .before .before .before .before .before .before .before .before .before .before .before .enum-told .given .1) in
-    laid-by (s .t1) (s .table .now) (s .t3) (length (s .table .now)) (length (s .table .now)) many (c .before .before .before .before .before .before .before .before .unary-starts .result) e (omega arith) (sym (c .before .before .before .before .before .before .before .before .before .before .before .before .node-good .ensures) ∙ not-false _ (c .before .before .before .before .before .before .before .before .before .before .before .if1 .left)) (c .before .before .before .before .before .before .before .before .unary-starts .ensures)
+    let e = told (s .t1) (s .table .now) (length (s .table .now)) (length (s .table .now)) (c .before .before .before .before .before .before .before .before .before .before .before .before .before .before .before .before .before .before .before .judge .result) (Entries many) refl (c .before .before .before .before .before .before .before .before .before .before .before .before .before .before .before .before .before .before .before .judge .ensures) (c .before .before .before .before .before .before .before .before .before .before .before .before .before .before .before .before .before .enum-told .given .1) in
+    laid-by (s .t1) (s .table .now) (s .t3) (length (s .table .now)) (length (s .table .now)) many (c .before .before .before .before .before .before .before .before .unary-starts .result) e (omega arith) (sym (c .before .before .before .before .before .before .before .before .before .before .before .before .node-good .ensures) ∙ not-false (c .before .before .before .before .before .before .before .before .before .before .before .before .node-good .result) (c .before .before .before .before .before .before .before .before .before .before .before .if1 .left)) (c .before .before .before .before .before .before .before .before .unary-starts .ensures)
 
 same-length-3 : tie.Need-same-length-3
 same-length-3 c = search needs
@@ -70,8 +71,8 @@ returns-3 : tie.Need-returns-3
 returns-3 c =
     let s = c .before .before .before .before .before .before .before .before .before .before .before .before .before .before .before .before .before .before .before .before .before .before .before .before .before .before .before .before .before .args in
     let many = c .before .before .before .before .before .before .before .before .before .before .before .before .before .before .before .before .before .before .before .before .enum-told .given .0 .0 in
-    let e = sym (sym (c .before .before .before .before .before .before .before .before .before .before .before .before .before .before .before .before .before .before .before .before .before .before .judge .ensures) ∙ c .before .before .before .before .before .before .before .before .before .before .before .before .before .before .before .before .before .before .before .before .enum-told .given .1) in
-    c .before .before .try-shift .ensures ∙ shift-tried (s .t1) (s .table .now) (s .t3) (s .one) many e (sym (c .before .before .before .before .before .before .before .before .before .before .before .before .before .before .before .node-good .ensures) ∙ not-false _ (c .before .before .before .before .before .before .before .before .before .before .before .before .before .before .if1 .left))
+    let e = told (s .t1) (s .table .now) (length (s .table .now)) (length (s .table .now)) (c .before .before .before .before .before .before .before .before .before .before .before .before .before .before .before .before .before .before .before .before .before .before .judge .result) (Entries many) refl (c .before .before .before .before .before .before .before .before .before .before .before .before .before .before .before .before .before .before .before .before .before .before .judge .ensures) (c .before .before .before .before .before .before .before .before .before .before .before .before .before .before .before .before .before .before .before .before .enum-told .given .1) in
+    c .before .before .try-shift .ensures ∙ shift-tried (s .t1) (s .table .now) (s .t3) (s .one) many e (sym (c .before .before .before .before .before .before .before .before .before .before .before .before .before .before .before .node-good .ensures) ∙ not-false (c .before .before .before .before .before .before .before .before .before .before .before .before .before .before .before .node-good .result) (c .before .before .before .before .before .before .before .before .before .before .before .before .before .before .if1 .left))
 
 pub shift-spec : {M : Type 1} → statement M
 shift-spec =

@@ -1,7 +1,7 @@
-use Rattle.shifts.proofs.BoxLaws.{boxOn-one}
-use Rattle.shifts.specs.Boxes.{changed}
 use native.Mathlib.Omega.{arith}
 use borrow.Author.Needs.{needs}
+use Rattle.shifts.proofs.BoxLaws.{boxOn-one}
+use Rattle.shifts.specs.Boxes.{changed}
 use Rattle.shifts.proofs.boxes.change_one.Statement.{statement}
 use Rattle.shifts.proofs.boxes.change_one.Tie as tie
 

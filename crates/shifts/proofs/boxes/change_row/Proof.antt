@@ -1,11 +1,11 @@
-use Rattle.shifts.proofs.BoxLaws.{boxOn-none, boxOn-turn}
-use Rattle.shifts.specs.Boxes.{spanTo, cells, boxOn, changed}
-use lib.ListN.{length}
-use native.Mathlib.Omega.{arith}
+use Prim.Native.Nat.{_≤_, _-_, _+_}
 use mathlib.Core.List.{[], _∷_}
 use mathlib.Core.Path.{_≡_, sym}
-use Prim.Native.Nat.{_≤_, _-_, _+_}
+use native.Mathlib.Omega.{arith}
+use lib.ListN.{length}
 use borrow.Author.Needs.{needs}
+use Rattle.shifts.proofs.BoxLaws.{boxOn-none, boxOn-turn}
+use Rattle.shifts.specs.Boxes.{spanTo, cells, boxOn, changed}
 use Rattle.shifts.proofs.boxes.change_row.Statement.{statement}
 use Rattle.shifts.proofs.boxes.change_row.Tie as tie
 

@@ -1,12 +1,12 @@
-use Rattle.shifts.proofs.BoxLaws.{boxLeast-none, boxLeast-turn, box-room}
-use Rattle.shifts.specs.Boxes.{spanned, spanTo, cells, boxLeast}
-use lib.ListN.{length}
-use native.Mathlib.Nat.{mul-one}
-use native.Mathlib.Omega.{arith}
+use Prim.Native.Nat.{ℕ, _≤_, _-_, _+_, _*_}
 use mathlib.Core.List.{[], _∷_}
 use mathlib.Core.Path.{_≡_, sym, ap}
-use Prim.Native.Nat.{ℕ, _≤_, _-_, _+_, _*_}
+use native.Mathlib.Nat.{mul-one}
+use native.Mathlib.Omega.{arith}
+use lib.ListN.{length}
 use borrow.Author.Needs.{needs}
+use Rattle.shifts.proofs.BoxLaws.{boxLeast-none, boxLeast-turn, box-room}
+use Rattle.shifts.specs.Boxes.{spanned, spanTo, cells, boxLeast}
 use Rattle.shifts.proofs.boxes.least_block.Statement.{statement}
 use Rattle.shifts.proofs.boxes.least_block.Tie as tie
 

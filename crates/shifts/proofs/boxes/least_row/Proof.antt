@@ -1,10 +1,10 @@
-use Rattle.shifts.proofs.BoxLaws.{boxLeast-none, boxLeast-step}
-use Rattle.shifts.specs.Boxes.{spanTo, cells, boxLeast}
-use native.Mathlib.Omega.{arith}
+use Prim.Native.Nat.{_≤_, _-_}
 use mathlib.Core.List.{[], _∷_}
 use mathlib.Core.Path.{_≡_, sym}
-use Prim.Native.Nat.{_≤_, _-_, _+_}
+use native.Mathlib.Omega.{arith}
 use borrow.Author.Needs.{needs}
+use Rattle.shifts.proofs.BoxLaws.{boxLeast-none, boxLeast-step}
+use Rattle.shifts.specs.Boxes.{spanTo, cells, boxLeast}
 use Rattle.shifts.proofs.boxes.least_row.Statement.{statement}
 use Rattle.shifts.proofs.boxes.least_row.Tie as tie
 

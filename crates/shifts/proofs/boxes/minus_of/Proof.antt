@@ -1,7 +1,7 @@
-use Rattle.shifts.proofs.GivingLaws.{minus-top, minus-less}
 use mathlib.Core.Path.{sym}
 use native.Mathlib.Omega.{arith}
 use borrow.Author.Needs.{needs}
+use Rattle.shifts.proofs.GivingLaws.{minus-top, minus-less}
 use Rattle.shifts.proofs.boxes.minus_of.Statement.{statement}
 use Rattle.shifts.proofs.boxes.minus_of.Tie as tie
 

@@ -1,18 +1,16 @@
-use Rattle.shifts.proofs.MoveLaws.{tried-not, tried-less, tried-enough, extend-not, legal-extend, place-least, by-exchange, unary-roomy, extends}
+use Prim.Native.Nat.{ℕ, _+_}
+use mathlib.Core.Path.{sym, ap, _∙_}
+use native.Mathlib.Omega.{arith}
+use lib.ListN.{length, getD}
+use borrow.Author.Tests.{not-true, not-false}
+use borrow.Author.Needs.{needs}
+use Rattle.shifts.proofs.MoveLaws.{tried-less, tried-enough, extend-not, legal-extend, place-least, exchange-may, unary-roomy, extends}
 use Rattle.shifts.proofs.PartLaws.{roomier}
 use Rattle.shifts.specs.declared.moves.Move.the-variants.{Extend}
-use borrow.Author.Tests.{not-true, not-false}
 use Rattle.costs.proofs.TestLaws.{so}
-use Rattle.shifts.specs.Doors.{leaves}
-use Rattle.shifts.specs.Passing.{least}
-use Rattle.shifts.specs.Nodes.{liveIn, fixed}
+use Rattle.shifts.specs.Nodes.{liveIn}
 use Rattle.costs.specs.Networks.{netOf}
 use Rattle.costs.specs.Net.{costsOf}
-use lib.ListN.{length, getD}
-use mathlib.Core.Path.{_≡_, refl, sym, ap, _∙_}
-use Prim.Native.Nat.{ℕ, _+_}
-use native.Mathlib.Omega.{arith}
-use borrow.Author.Needs.{needs}
 use Rattle.shifts.proofs.moves.extend.Statement.{statement}
 use Rattle.shifts.proofs.moves.extend.Tie as tie
 
@@ -28,42 +26,34 @@ returns c =
     let s = g .args in
     let n = netOf (s .top) (s .vars) (s .functions) (s .sizes .now) (s .scopes .now) in
     let live = liveIn (s .sizes .now) (s .node .now) in
-    rw (c .refused .ensures) (extend-not n live (s .f) (s .i) (s .a) (s .amount) (s .constant) (s .table .now) (sym (c .before .before .may-exchange .ensures) ∙ not-true _ (c .before .if1 .taken)))
+    rw (c .refused .ensures) (extend-not n live (s .f) (s .i) (s .a) (s .amount) (s .constant) (s .table .now) (sym (c .before .before .may-exchange .ensures) ∙ not-true (c .before .before .may-exchange .result) (c .before .if1 .taken)))
 
 unary-start-requires : tie.Need-unary-start-requires
 unary-start-requires c κs =
     let g = c .before .before .before in
     let s = g .args in
-    let n = netOf (s .top) (s .vars) (s .functions) (s .sizes .now) (s .scopes .now) in
-    let live = liveIn (s .sizes .now) (s .node .now) in
-    let may = by-exchange (s .top) (s .vars) (s .functions) (s .sizes .now) (s .scopes .now) (s .node .now) (s .f) (s .i) (s .a) (s .amount) .says (so (sym (c .before .may-exchange .ensures) ∙ not-false _ (c .if1 .left))) in
+    let may = exchange-may (s .top) (s .vars) (s .functions) (s .sizes .now) (s .scopes .now) (s .node .now) (s .f) (s .i) (s .a) (s .amount) (c .before .may-exchange .result) (c .before .may-exchange .ensures) (not-false (c .before .may-exchange .result) (c .if1 .left)) in
     omega (arith, may .variable, g .pre .ready .scoped .vars-few)
 
 add-at : tie.Need-add-at
 add-at c =
     let g = c .before .before .before .before in
     let s = g .args in
-    let n = netOf (s .top) (s .vars) (s .functions) (s .sizes .now) (s .scopes .now) in
-    let live = liveIn (s .sizes .now) (s .node .now) in
-    let may = by-exchange (s .top) (s .vars) (s .functions) (s .sizes .now) (s .scopes .now) (s .node .now) (s .f) (s .i) (s .a) (s .amount) .says (so (sym (c .before .before .may-exchange .ensures) ∙ not-false _ (c .before .if1 .left))) in
+    let may = exchange-may (s .top) (s .vars) (s .functions) (s .sizes .now) (s .scopes .now) (s .node .now) (s .f) (s .i) (s .a) (s .amount) (c .before .before .may-exchange .result) (c .before .before .may-exchange .ensures) (not-false (c .before .before .may-exchange .result) (c .before .if1 .left)) in
     omega (arith, may .value, c .unary-start .ensures, unary-roomy (s .top) (s .vars) (s .functions) (s .sizes .now) (s .scopes .now) (s .starts .now) (s .firsts .now) (s .node .now) (length (s .table .now)) (g .pre) (s .i) (may .variable))
 
 mul-cost : tie.Need-mul-cost
 mul-cost c =
     let g = c .before .before .before .before in
     let s = g .args in
-    let n = netOf (s .top) (s .vars) (s .functions) (s .sizes .now) (s .scopes .now) in
-    let live = liveIn (s .sizes .now) (s .node .now) in
-    let may = by-exchange (s .top) (s .vars) (s .functions) (s .sizes .now) (s .scopes .now) (s .node .now) (s .f) (s .i) (s .a) (s .amount) .says (so (sym (c .before .before .may-exchange .ensures) ∙ not-false _ (c .before .if1 .left))) in
+    let may = exchange-may (s .top) (s .vars) (s .functions) (s .sizes .now) (s .scopes .now) (s .node .now) (s .f) (s .i) (s .a) (s .amount) (c .before .before .may-exchange .result) (c .before .before .may-exchange .ensures) (not-false (c .before .before .may-exchange .result) (c .before .if1 .left)) in
     omega (arith, may .value, c .unary-start .ensures, unary-roomy (s .top) (s .vars) (s .functions) (s .sizes .now) (s .scopes .now) (s .starts .now) (s .firsts .now) (s .node .now) (length (s .table .now)) (g .pre) (s .i) (may .variable))
 
 slice-read-cost : tie.Need-slice-read-cost
 slice-read-cost c =
     let g = c .before .before .before .before .before in
     let s = g .args in
-    let n = netOf (s .top) (s .vars) (s .functions) (s .sizes .now) (s .scopes .now) in
-    let live = liveIn (s .sizes .now) (s .node .now) in
-    let may = by-exchange (s .top) (s .vars) (s .functions) (s .sizes .now) (s .scopes .now) (s .node .now) (s .f) (s .i) (s .a) (s .amount) .says (so (sym (c .before .before .before .may-exchange .ensures) ∙ not-false _ (c .before .before .if1 .left))) in
+    let may = exchange-may (s .top) (s .vars) (s .functions) (s .sizes .now) (s .scopes .now) (s .node .now) (s .f) (s .i) (s .a) (s .amount) (c .before .before .before .may-exchange .result) (c .before .before .before .may-exchange .ensures) (not-false (c .before .before .before .may-exchange .result) (c .before .before .if1 .left)) in
     omega (arith, may .value, c .before .unary-start .ensures, unary-roomy (s .top) (s .vars) (s .functions) (s .sizes .now) (s .scopes .now) (s .starts .now) (s .firsts .now) (s .node .now) (length (s .table .now)) (g .pre) (s .i) (may .variable))
 
 refused-requires-2 : tie.Need-refused-requires-2
@@ -75,33 +65,26 @@ returns-2 c =
     let s = g .args in
     let n = netOf (s .top) (s .vars) (s .functions) (s .sizes .now) (s .scopes .now) in
     let live = liveIn (s .sizes .now) (s .node .now) in
-    let may = by-exchange (s .top) (s .vars) (s .functions) (s .sizes .now) (s .scopes .now) (s .node .now) (s .f) (s .i) (s .a) (s .amount) .says (so (sym (c .before .before .before .before .before .may-exchange .ensures) ∙ not-false _ (c .before .before .before .before .if1 .left))) in
+    let may = exchange-may (s .top) (s .vars) (s .functions) (s .sizes .now) (s .scopes .now) (s .node .now) (s .f) (s .i) (s .a) (s .amount) (c .before .before .before .before .before .may-exchange .result) (c .before .before .before .before .before .may-exchange .ensures) (not-false (c .before .before .before .before .before .may-exchange .result) (c .before .before .before .before .if1 .left)) in
     rw (c .refused2 .ensures) (tried-less n live (Extend (s .f) (s .i) (s .a) (s .amount)) (s .constant) (s .amount) (s .table .now) (c .before .before .before .before .before .may-exchange .result) (getD (s .table .now) (c .before .before .before .unary-start .result + s .a) 0) (legal-extend n live (costsOf (s .constant) (s .table .now)) (s .f) (s .i) (s .a) (s .amount) (c .before .before .before .before .before .may-exchange .result) (getD (s .table .now) (c .before .before .before .unary-start .result + s .a) 0) (c .before .before .before .before .before .may-exchange .ensures) (place-least (s .top) (s .vars) (s .functions) (s .sizes .now) (s .scopes .now) (s .node .now) (s .i) (may .variable) (s .a) (may .value) (c .before .before .before .unary-start .result + s .a) (s .constant) (s .table .now) (ap (λ (x : ℕ). x + s .a) (c .before .before .before .unary-start .ensures ∙ g .pre .first (s .i) (may .variable))))) (c .before .if2 .taken))
 
 function-block-requires : tie.Need-function-block-requires
 function-block-requires c κs =
     let g = c .before .before .before .before .before .before in
     let s = g .args in
-    let n = netOf (s .top) (s .vars) (s .functions) (s .sizes .now) (s .scopes .now) in
-    let live = liveIn (s .sizes .now) (s .node .now) in
-    let may = by-exchange (s .top) (s .vars) (s .functions) (s .sizes .now) (s .scopes .now) (s .node .now) (s .f) (s .i) (s .a) (s .amount) .says (so (sym (c .before .before .before .before .may-exchange .ensures) ∙ not-false _ (c .before .before .before .if1 .left))) in
+    let may = exchange-may (s .top) (s .vars) (s .functions) (s .sizes .now) (s .scopes .now) (s .node .now) (s .f) (s .i) (s .a) (s .amount) (c .before .before .before .before .may-exchange .result) (c .before .before .before .before .may-exchange .ensures) (not-false (c .before .before .before .before .may-exchange .result) (c .before .before .before .if1 .left)) in
     (g .pre .ready, (g .pre .node, (may .function, may .variable, may .value)))
 
 change-one-requires : tie.Need-change-one-requires
 change-one-requires c κs =
     let g = c .before .before .before .before .before .before .before .before in
     let s = g .args in
-    let n = netOf (s .top) (s .vars) (s .functions) (s .sizes .now) (s .scopes .now) in
-    let live = liveIn (s .sizes .now) (s .node .now) in
-    let may = by-exchange (s .top) (s .vars) (s .functions) (s .sizes .now) (s .scopes .now) (s .node .now) (s .f) (s .i) (s .a) (s .amount) .says (so (sym (c .before .before .before .before .before .before .may-exchange .ensures) ∙ not-false _ (c .before .before .before .before .before .if1 .left))) in
+    let may = exchange-may (s .top) (s .vars) (s .functions) (s .sizes .now) (s .scopes .now) (s .node .now) (s .f) (s .i) (s .a) (s .amount) (c .before .before .before .before .before .before .may-exchange .result) (c .before .before .before .before .before .before .may-exchange .ensures) (not-false (c .before .before .before .before .before .before .may-exchange .result) (c .before .before .before .before .before .if1 .left)) in
     omega (arith, may .value, c .before .before .before .before .unary-start .ensures, unary-roomy (s .top) (s .vars) (s .functions) (s .sizes .now) (s .scopes .now) (s .starts .now) (s .firsts .now) (s .node .now) (length (s .table .now)) (g .pre) (s .i) (may .variable))
 
 change-block-requires : tie.Need-change-block-requires
 change-block-requires c κs =
     let g = c .before .before .before .before .before .before .before .before .before .before .before .before in
-    let s = g .args in
-    let n = netOf (s .top) (s .vars) (s .functions) (s .sizes .now) (s .scopes .now) in
-    let live = liveIn (s .sizes .now) (s .node .now) in
     roomier (c .before .before .before .before .before .function-block .ensures .sits) (omega (arith, g .pre .roomy, c .before .before .before .change-one .kept .0))
 
 same-length : tie.Need-same-length
@@ -113,8 +96,8 @@ returns-3 c =
     let s = g .args in
     let n = netOf (s .top) (s .vars) (s .functions) (s .sizes .now) (s .scopes .now) in
     let live = liveIn (s .sizes .now) (s .node .now) in
-    let may = by-exchange (s .top) (s .vars) (s .functions) (s .sizes .now) (s .scopes .now) (s .node .now) (s .f) (s .i) (s .a) (s .amount) .says (so (sym (c .before .before .before .before .before .before .before .before .before .before .before .before .before .may-exchange .ensures) ∙ not-false _ (c .before .before .before .before .before .before .before .before .before .before .before .before .if1 .left))) in
-    tried-enough n live (Extend (s .f) (s .i) (s .a) (s .amount)) (s .constant) (s .amount) (s .table .now) (c .before .before .before .before .before .before .before .before .before .before .before .before .before .may-exchange .result) (getD (s .table .now) (c .before .before .before .before .before .before .before .before .before .before .before .unary-start .result + s .a) 0) (legal-extend n live (costsOf (s .constant) (s .table .now)) (s .f) (s .i) (s .a) (s .amount) (c .before .before .before .before .before .before .before .before .before .before .before .before .before .may-exchange .result) (getD (s .table .now) (c .before .before .before .before .before .before .before .before .before .before .before .unary-start .result + s .a) 0) (c .before .before .before .before .before .before .before .before .before .before .before .before .before .may-exchange .ensures) (place-least (s .top) (s .vars) (s .functions) (s .sizes .now) (s .scopes .now) (s .node .now) (s .i) (may .variable) (s .a) (may .value) (c .before .before .before .before .before .before .before .before .before .before .before .unary-start .result + s .a) (s .constant) (s .table .now) (ap (λ (x : ℕ). x + s .a) (c .before .before .before .before .before .before .before .before .before .before .before .unary-start .ensures ∙ g .pre .first (s .i) (may .variable))))) (s .constant) (c .before .before .change-block .last .0) (not-false _ (c .before .before .before .before .before .before .before .before .before .before .before .before .if1 .left)) (c .before .before .before .before .before .before .before .before .before .if2 .left)
+    let may = exchange-may (s .top) (s .vars) (s .functions) (s .sizes .now) (s .scopes .now) (s .node .now) (s .f) (s .i) (s .a) (s .amount) (c .before .before .before .before .before .before .before .before .before .before .before .before .before .may-exchange .result) (c .before .before .before .before .before .before .before .before .before .before .before .before .before .may-exchange .ensures) (not-false (c .before .before .before .before .before .before .before .before .before .before .before .before .before .may-exchange .result) (c .before .before .before .before .before .before .before .before .before .before .before .before .if1 .left)) in
+    tried-enough n live (Extend (s .f) (s .i) (s .a) (s .amount)) (s .constant) (s .amount) (s .table .now) (c .before .before .before .before .before .before .before .before .before .before .before .before .before .may-exchange .result) (getD (s .table .now) (c .before .before .before .before .before .before .before .before .before .before .before .unary-start .result + s .a) 0) (legal-extend n live (costsOf (s .constant) (s .table .now)) (s .f) (s .i) (s .a) (s .amount) (c .before .before .before .before .before .before .before .before .before .before .before .before .before .may-exchange .result) (getD (s .table .now) (c .before .before .before .before .before .before .before .before .before .before .before .unary-start .result + s .a) 0) (c .before .before .before .before .before .before .before .before .before .before .before .before .before .may-exchange .ensures) (place-least (s .top) (s .vars) (s .functions) (s .sizes .now) (s .scopes .now) (s .node .now) (s .i) (may .variable) (s .a) (may .value) (c .before .before .before .before .before .before .before .before .before .before .before .unary-start .result + s .a) (s .constant) (s .table .now) (ap (λ (x : ℕ). x + s .a) (c .before .before .before .before .before .before .before .before .before .before .before .unary-start .ensures ∙ g .pre .first (s .i) (may .variable))))) (s .constant) (c .before .before .change-block .last .0) (not-false (c .before .before .before .before .before .before .before .before .before .before .before .before .before .may-exchange .result) (c .before .before .before .before .before .before .before .before .before .before .before .before .if1 .left)) (c .before .before .before .before .before .before .before .before .before .if2 .left)
     (extends (s .top) (s .vars) (s .functions) (s .sizes .now) (s .scopes .now) (s .node .now) (s .i) (may .variable) (s .a) (may .value) (s .f) (c .before .before .before .before .before .before .before .before .before .before .before .unary-start .result + s .a) (s .amount) (s .constant)
     (c .before .before .before .before .before .before .before .before .function-block .result) (s .table .now) (c .before .before .before .before .before .before .change-one .last .0) (c .before .before .change-block .last .0) (c .before .before .before .before .before .before .before .before .function-block .ensures)
     (ap (λ (x : ℕ). x + s .a) (c .before .before .before .before .before .before .before .before .before .before .before .unary-start .ensures ∙ g .pre .first (s .i) (may .variable))) (c .before .before .before .before .before .before .change-one .ensures) (c .before .before .change-block .ensures))

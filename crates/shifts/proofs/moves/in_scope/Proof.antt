@@ -1,11 +1,11 @@
+use Prim.Native.Nat.{_≤_, _-_}
+use mathlib.Core.Path.{_≡_, refl, sym, _∙_}
+use native.Mathlib.Omega.{arith}
+use borrow.Author.Needs.{needs}
 use Rattle.shifts.proofs.MoveLaws.{among-found, among-passed}
 use Rattle.costs.proofs.RowLaws.{rest, rest-end}
 use Rattle.costs.specs.Judging.{among}
 use Rattle.costs.specs.Networks.{inRow, scopeIn}
-use mathlib.Core.Path.{_≡_, refl, sym, _∙_}
-use Prim.Native.Nat.{_≤_, _-_, _+_}
-use native.Mathlib.Omega.{arith}
-use borrow.Author.Needs.{needs}
 use Rattle.shifts.proofs.moves.in_scope.Statement.{statement}
 use Rattle.shifts.proofs.moves.in_scope.Tie as tie
 

@@ -1,7 +1,7 @@
-use Rattle.shifts.proofs.MoveLaws.{by-live}
-use Rattle.costs.proofs.TestLaws.{yes-by, no-by}
 use native.Mathlib.Omega.{arith}
 use borrow.Author.Needs.{needs}
+use Rattle.shifts.proofs.MoveLaws.{by-live}
+use Rattle.costs.proofs.TestLaws.{yes-by, no-by}
 use Rattle.shifts.proofs.moves.is_live.Statement.{statement}
 use Rattle.shifts.proofs.moves.is_live.Tie as tie
 

@@ -1,9 +1,9 @@
-use Rattle.costs.proofs.TestLaws.{yes-by, no-by, so, not-so, same-test}
-use borrow.Author.Tests.{not-true, not-false}
-use Rattle.shifts.proofs.MoveLaws.{by-exchange}
 use mathlib.Core.Path.{sym, _∙_}
 use native.Mathlib.Omega.{arith}
+use borrow.Author.Tests.{not-true, not-false}
 use borrow.Author.Needs.{needs}
+use Rattle.costs.proofs.TestLaws.{no-by, so, not-so, same-test}
+use Rattle.shifts.proofs.MoveLaws.{by-exchange}
 use Rattle.shifts.proofs.moves.may_exchange.Statement.{statement}
 use Rattle.shifts.proofs.moves.may_exchange.Tie as tie
 

@@ -1,7 +1,7 @@
-use Rattle.costs.proofs.JudgeLaws.{by-between}
-use Rattle.costs.proofs.TestLaws.{by-and, by-ltb, yes-by, no-by}
 use native.Mathlib.Omega.{arith}
 use borrow.Author.Needs.{needs}
+use Rattle.costs.proofs.JudgeLaws.{by-between}
+use Rattle.costs.proofs.TestLaws.{by-and, by-ltb, yes-by, no-by}
 use Rattle.shifts.proofs.moves.may_raise.Statement.{statement}
 use Rattle.shifts.proofs.moves.may_raise.Tie as tie
 

@@ -1,18 +1,17 @@
+use Prim.Native.Nat.{ℕ, _+_}
+use mathlib.Core.Path.{refl, sym, ap, _∙_}
+use native.Mathlib.Omega.{arith}
+use lib.ListN.{length}
 use borrow.Author.Tests.{not-true, not-false}
+use borrow.Author.Needs.{needs}
 use Rattle.costs.proofs.TestLaws.{so}
-use Rattle.shifts.proofs.MoveLaws.{tried-not, tried-less, tried-enough, legal-project, block-least, by-exchange, unary-roomy, projects}
+use Rattle.shifts.proofs.MoveLaws.{tried-not, tried-less, tried-enough, legal-project, block-least, exchange-may, unary-roomy, projects}
 use Rattle.shifts.proofs.PartLaws.{roomier}
 use Rattle.shifts.specs.declared.moves.Move.the-variants.{Project}
-use Rattle.shifts.specs.Doors.{leaves}
 use Rattle.shifts.specs.Passing.{least}
 use Rattle.shifts.specs.Nodes.{liveIn, fixed}
 use Rattle.costs.specs.Networks.{netOf}
 use Rattle.costs.specs.Net.{costsOf}
-use lib.ListN.{length, getD}
-use mathlib.Core.Path.{_≡_, refl, sym, ap, _∙_}
-use Prim.Native.Nat.{ℕ, _+_}
-use native.Mathlib.Omega.{arith}
-use borrow.Author.Needs.{needs}
 use Rattle.shifts.proofs.moves.project.Statement.{statement}
 use Rattle.shifts.proofs.moves.project.Tie as tie
 
@@ -28,23 +27,18 @@ returns c =
     let s = g .args in
     let n = netOf (s .top) (s .vars) (s .functions) (s .sizes .now) (s .scopes .now) in
     let live = liveIn (s .sizes .now) (s .node .now) in
-    rw (c .refused .ensures) (tried-not n live (Project (s .f) (s .i) (s .a) (s .amount)) (s .constant) (s .amount) (s .table .now) (c .before .before .may-exchange .result) (least n (fixed live (s .i) (s .a)) (costsOf (s .constant) (s .table .now)) (s .vars + s .f)) (legal-project n live (costsOf (s .constant) (s .table .now)) (s .f) (s .i) (s .a) (s .amount) (c .before .before .may-exchange .result) (least n (fixed live (s .i) (s .a)) (costsOf (s .constant) (s .table .now)) (s .vars + s .f)) (c .before .before .may-exchange .ensures) (refl)) (not-true _ (c .before .if1 .taken)))
+    rw (c .refused .ensures) (tried-not n live (Project (s .f) (s .i) (s .a) (s .amount)) (s .constant) (s .amount) (s .table .now) (c .before .before .may-exchange .result) (least n (fixed live (s .i) (s .a)) (costsOf (s .constant) (s .table .now)) (s .vars + s .f)) (legal-project n live (costsOf (s .constant) (s .table .now)) (s .f) (s .i) (s .a) (s .amount) (c .before .before .may-exchange .result) (least n (fixed live (s .i) (s .a)) (costsOf (s .constant) (s .table .now)) (s .vars + s .f)) (c .before .before .may-exchange .ensures) (refl)) (not-true (c .before .before .may-exchange .result) (c .before .if1 .taken)))
 
 function-block-requires : tie.Need-function-block-requires
 function-block-requires c κs =
     let g = c .before .before .before in
     let s = g .args in
-    let n = netOf (s .top) (s .vars) (s .functions) (s .sizes .now) (s .scopes .now) in
-    let live = liveIn (s .sizes .now) (s .node .now) in
-    let may = by-exchange (s .top) (s .vars) (s .functions) (s .sizes .now) (s .scopes .now) (s .node .now) (s .f) (s .i) (s .a) (s .amount) .says (so (sym (c .before .may-exchange .ensures) ∙ not-false _ (c .if1 .left))) in
+    let may = exchange-may (s .top) (s .vars) (s .functions) (s .sizes .now) (s .scopes .now) (s .node .now) (s .f) (s .i) (s .a) (s .amount) (c .before .may-exchange .result) (c .before .may-exchange .ensures) (not-false (c .before .may-exchange .result) (c .if1 .left)) in
     (g .pre .ready, (g .pre .node, (may .function, may .variable, may .value)))
 
 least-block-requires : tie.Need-least-block-requires
 least-block-requires c κs =
     let g = c .before .before .before .before .before in
-    let s = g .args in
-    let n = netOf (s .top) (s .vars) (s .functions) (s .sizes .now) (s .scopes .now) in
-    let live = liveIn (s .sizes .now) (s .node .now) in
     roomier (c .before .function-block .ensures .sits) (g .pre .roomy)
 
 refused-requires-2 : tie.Need-refused-requires-2
@@ -65,35 +59,26 @@ unary-start-requires : tie.Need-unary-start-requires
 unary-start-requires c κs =
     let g = c .before .before .before .before .before .before .before in
     let s = g .args in
-    let n = netOf (s .top) (s .vars) (s .functions) (s .sizes .now) (s .scopes .now) in
-    let live = liveIn (s .sizes .now) (s .node .now) in
-    let may = by-exchange (s .top) (s .vars) (s .functions) (s .sizes .now) (s .scopes .now) (s .node .now) (s .f) (s .i) (s .a) (s .amount) .says (so (sym (c .before .before .before .before .before .may-exchange .ensures) ∙ not-false _ (c .before .before .before .before .if1 .left))) in
+    let may = exchange-may (s .top) (s .vars) (s .functions) (s .sizes .now) (s .scopes .now) (s .node .now) (s .f) (s .i) (s .a) (s .amount) (c .before .before .before .before .before .may-exchange .result) (c .before .before .before .before .before .may-exchange .ensures) (not-false (c .before .before .before .before .before .may-exchange .result) (c .before .before .before .before .if1 .left)) in
     omega (arith, may .variable, g .pre .ready .scoped .vars-few)
 
 add-at : tie.Need-add-at
 add-at c =
     let g = c .before .before .before .before .before .before .before .before in
     let s = g .args in
-    let n = netOf (s .top) (s .vars) (s .functions) (s .sizes .now) (s .scopes .now) in
-    let live = liveIn (s .sizes .now) (s .node .now) in
-    let may = by-exchange (s .top) (s .vars) (s .functions) (s .sizes .now) (s .scopes .now) (s .node .now) (s .f) (s .i) (s .a) (s .amount) .says (so (sym (c .before .before .before .before .before .before .may-exchange .ensures) ∙ not-false _ (c .before .before .before .before .before .if1 .left))) in
+    let may = exchange-may (s .top) (s .vars) (s .functions) (s .sizes .now) (s .scopes .now) (s .node .now) (s .f) (s .i) (s .a) (s .amount) (c .before .before .before .before .before .before .may-exchange .result) (c .before .before .before .before .before .before .may-exchange .ensures) (not-false (c .before .before .before .before .before .before .may-exchange .result) (c .before .before .before .before .before .if1 .left)) in
     omega (arith, may .value, c .unary-start .ensures, unary-roomy (s .top) (s .vars) (s .functions) (s .sizes .now) (s .scopes .now) (s .starts .now) (s .firsts .now) (s .node .now) (length (s .table .now)) (g .pre) (s .i) (may .variable))
 
 change-block-requires : tie.Need-change-block-requires
 change-block-requires c κs =
     let g = c .before .before .before .before .before .before .before .before .before in
-    let s = g .args in
-    let n = netOf (s .top) (s .vars) (s .functions) (s .sizes .now) (s .scopes .now) in
-    let live = liveIn (s .sizes .now) (s .node .now) in
     roomier (c .before .before .before .before .before .function-block .ensures .sits) (g .pre .roomy)
 
 change-one-requires : tie.Need-change-one-requires
 change-one-requires c κs =
     let g = c .before .before .before .before .before .before .before .before .before .before .before .before .before in
     let s = g .args in
-    let n = netOf (s .top) (s .vars) (s .functions) (s .sizes .now) (s .scopes .now) in
-    let live = liveIn (s .sizes .now) (s .node .now) in
-    let may = by-exchange (s .top) (s .vars) (s .functions) (s .sizes .now) (s .scopes .now) (s .node .now) (s .f) (s .i) (s .a) (s .amount) .says (so (sym (c .before .before .before .before .before .before .before .before .before .before .before .may-exchange .ensures) ∙ not-false _ (c .before .before .before .before .before .before .before .before .before .before .if1 .left))) in
+    let may = exchange-may (s .top) (s .vars) (s .functions) (s .sizes .now) (s .scopes .now) (s .node .now) (s .f) (s .i) (s .a) (s .amount) (c .before .before .before .before .before .before .before .before .before .before .before .may-exchange .result) (c .before .before .before .before .before .before .before .before .before .before .before .may-exchange .ensures) (not-false (c .before .before .before .before .before .before .before .before .before .before .before .may-exchange .result) (c .before .before .before .before .before .before .before .before .before .before .if1 .left)) in
     omega (arith, may .value, c .before .before .before .before .before .unary-start .ensures, unary-roomy (s .top) (s .vars) (s .functions) (s .sizes .now) (s .scopes .now) (s .starts .now) (s .firsts .now) (s .node .now) (length (s .table .now)) (g .pre) (s .i) (may .variable), c .before .before .before .change-block .kept .0)
 
 same-length-2 : tie.Need-same-length-2
@@ -105,8 +90,8 @@ returns-3 c =
     let s = g .args in
     let n = netOf (s .top) (s .vars) (s .functions) (s .sizes .now) (s .scopes .now) in
     let live = liveIn (s .sizes .now) (s .node .now) in
-    let may = by-exchange (s .top) (s .vars) (s .functions) (s .sizes .now) (s .scopes .now) (s .node .now) (s .f) (s .i) (s .a) (s .amount) .says (so (sym (c .before .before .before .before .before .before .before .before .before .before .before .before .before .before .may-exchange .ensures) ∙ not-false _ (c .before .before .before .before .before .before .before .before .before .before .before .before .before .if1 .left))) in
-    tried-enough n live (Project (s .f) (s .i) (s .a) (s .amount)) (s .constant) (s .amount) (s .table .now) (c .before .before .before .before .before .before .before .before .before .before .before .before .before .before .may-exchange .result) (c .before .before .before .before .before .before .before .before .before .before .least-block .result) (legal-project n live (costsOf (s .constant) (s .table .now)) (s .f) (s .i) (s .a) (s .amount) (c .before .before .before .before .before .before .before .before .before .before .before .before .before .before .may-exchange .result) (c .before .before .before .before .before .before .before .before .before .before .least-block .result) (c .before .before .before .before .before .before .before .before .before .before .before .before .before .before .may-exchange .ensures) (block-least n (fixed live (s .i) (s .a)) (s .vars + s .f) (c .before .before .before .before .before .before .before .before .before .before .before .before .function-block .result) (c .before .before .before .before .before .before .before .before .before .before .least-block .result) (s .constant) (s .table .now) (c .before .before .before .before .before .before .before .before .before .before .before .before .function-block .ensures) (c .before .before .before .before .before .before .before .before .before .before .least-block .ensures))) (s .constant) (c .before .before .change-one .last .0) (not-false _ (c .before .before .before .before .before .before .before .before .before .before .before .before .before .if1 .left)) (c .before .before .before .before .before .before .before .before .before .if2 .left)
+    let may = exchange-may (s .top) (s .vars) (s .functions) (s .sizes .now) (s .scopes .now) (s .node .now) (s .f) (s .i) (s .a) (s .amount) (c .before .before .before .before .before .before .before .before .before .before .before .before .before .before .may-exchange .result) (c .before .before .before .before .before .before .before .before .before .before .before .before .before .before .may-exchange .ensures) (not-false (c .before .before .before .before .before .before .before .before .before .before .before .before .before .before .may-exchange .result) (c .before .before .before .before .before .before .before .before .before .before .before .before .before .if1 .left)) in
+    tried-enough n live (Project (s .f) (s .i) (s .a) (s .amount)) (s .constant) (s .amount) (s .table .now) (c .before .before .before .before .before .before .before .before .before .before .before .before .before .before .may-exchange .result) (c .before .before .before .before .before .before .before .before .before .before .least-block .result) (legal-project n live (costsOf (s .constant) (s .table .now)) (s .f) (s .i) (s .a) (s .amount) (c .before .before .before .before .before .before .before .before .before .before .before .before .before .before .may-exchange .result) (c .before .before .before .before .before .before .before .before .before .before .least-block .result) (c .before .before .before .before .before .before .before .before .before .before .before .before .before .before .may-exchange .ensures) (block-least n (fixed live (s .i) (s .a)) (s .vars + s .f) (c .before .before .before .before .before .before .before .before .before .before .before .before .function-block .result) (c .before .before .before .before .before .before .before .before .before .before .least-block .result) (s .constant) (s .table .now) (c .before .before .before .before .before .before .before .before .before .before .before .before .function-block .ensures) (c .before .before .before .before .before .before .before .before .before .before .least-block .ensures))) (s .constant) (c .before .before .change-one .last .0) (not-false (c .before .before .before .before .before .before .before .before .before .before .before .before .before .before .may-exchange .result) (c .before .before .before .before .before .before .before .before .before .before .before .before .before .if1 .left)) (c .before .before .before .before .before .before .before .before .before .if2 .left)
     (projects (s .top) (s .vars) (s .functions) (s .sizes .now) (s .scopes .now) (s .node .now) (s .i) (may .variable) (s .a) (may .value) (s .f) (c .before .before .before .before .before .before .before .before .unary-start .result + s .a) (s .amount) (s .constant)
     (c .before .before .before .before .before .before .before .before .before .before .before .before .function-block .result) (s .table .now) (c .before .before .before .before .before .before .change-block .last .0) (c .before .before .change-one .last .0) (c .before .before .before .before .before .before .before .before .before .before .before .before .function-block .ensures)
     (ap (λ (x : ℕ). x + s .a) (c .before .before .before .before .before .before .before .before .unary-start .ensures ∙ g .pre .first (s .i) (may .variable))) (c .before .before .before .before .before .before .change-block .ensures) (c .before .before .change-one .ensures))

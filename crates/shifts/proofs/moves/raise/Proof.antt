@@ -1,19 +1,14 @@
-use Rattle.shifts.proofs.MoveLaws.{tried-not, tried-less, tried-enough, legal-raise, row-least, row-sits, raises}
-use Rattle.shifts.specs.declared.moves.Move.the-variants.{Raise}
-use Rattle.costs.proofs.JudgeLaws.{by-between}
-use Rattle.costs.proofs.TestLaws.{by-and, by-ltb}
+use mathlib.Core.Path.{refl, sym, _∙_}
+use native.Mathlib.Omega.{arith}
+use lib.ListN.{length}
 use borrow.Author.Tests.{not-true, not-false}
-use Rattle.costs.proofs.TestLaws.{so}
-use Rattle.shifts.specs.Doors.{leaves}
+use borrow.Author.Needs.{needs}
+use Rattle.shifts.proofs.MoveLaws.{tried-not, tried-less, tried-enough, legal-raise, row-least, row-sits, raises, raise-may}
+use Rattle.shifts.specs.declared.moves.Move.the-variants.{Raise}
 use Rattle.shifts.specs.Passing.{least}
-use Rattle.shifts.specs.Nodes.{liveIn, fixed}
+use Rattle.shifts.specs.Nodes.{liveIn}
 use Rattle.costs.specs.Networks.{netOf}
 use Rattle.costs.specs.Net.{costsOf}
-use lib.ListN.{length, getD}
-use mathlib.Core.Path.{_≡_, refl, sym, ap, _∙_}
-use Prim.Native.Nat.{ℕ, _+_}
-use native.Mathlib.Omega.{arith}
-use borrow.Author.Needs.{needs}
 use Rattle.shifts.proofs.moves.raise.Statement.{statement}
 use Rattle.shifts.proofs.moves.raise.Tie as tie
 
@@ -29,34 +24,28 @@ returns c =
     let s = g .args in
     let n = netOf (s .top) (s .vars) (s .functions) (s .sizes .now) (s .scopes .now) in
     let live = liveIn (s .sizes .now) (s .node .now) in
-    rw (c .refused .ensures) (tried-not n live (Raise (s .i) (s .amount)) (s .constant) (s .amount) (s .table .now) (c .before .before .may-raise .result) (least n live (costsOf (s .constant) (s .table .now)) (s .i)) (legal-raise n live (costsOf (s .constant) (s .table .now)) (s .i) (s .amount) (c .before .before .may-raise .result) (least n live (costsOf (s .constant) (s .table .now)) (s .i)) (c .before .before .may-raise .ensures) (refl)) (not-true _ (c .before .if1 .taken)))
+    rw (c .refused .ensures) (tried-not n live (Raise (s .i) (s .amount)) (s .constant) (s .amount) (s .table .now) (c .before .before .may-raise .result) (least n live (costsOf (s .constant) (s .table .now)) (s .i)) (legal-raise n live (costsOf (s .constant) (s .table .now)) (s .i) (s .amount) (c .before .before .may-raise .result) (least n live (costsOf (s .constant) (s .table .now)) (s .i)) (c .before .before .may-raise .ensures) (refl)) (not-true (c .before .before .may-raise .result) (c .before .if1 .taken)))
 
 live-span-requires : tie.Need-live-span-requires
 live-span-requires c κs =
     let g = c .before .before .before in
     let s = g .args in
-    let n = netOf (s .top) (s .vars) (s .functions) (s .sizes .now) (s .scopes .now) in
-    let live = liveIn (s .sizes .now) (s .node .now) in
-    let may = by-and (by-between 1 (s .top) (s .amount)) (by-ltb (s .i) (s .vars)) .says (so (sym (c .before .may-raise .ensures) ∙ not-false _ (c .if1 .left))) in
+    let may = raise-may (s .top) (s .vars) (s .i) (s .amount) (c .before .may-raise .result) (c .before .may-raise .ensures) (not-false (c .before .may-raise .result) (c .if1 .left)) in
     omega (arith, may, g .pre .ready .scoped .vars-few)
 
 unary-start-requires : tie.Need-unary-start-requires
 unary-start-requires c κs =
     let g = c .before .before .before .before in
     let s = g .args in
-    let n = netOf (s .top) (s .vars) (s .functions) (s .sizes .now) (s .scopes .now) in
-    let live = liveIn (s .sizes .now) (s .node .now) in
-    let may = by-and (by-between 1 (s .top) (s .amount)) (by-ltb (s .i) (s .vars)) .says (so (sym (c .before .before .may-raise .ensures) ∙ not-false _ (c .before .if1 .left))) in
+    let may = raise-may (s .top) (s .vars) (s .i) (s .amount) (c .before .before .may-raise .result) (c .before .before .may-raise .ensures) (not-false (c .before .before .may-raise .result) (c .before .if1 .left)) in
     omega (arith, may, g .pre .ready .scoped .vars-few)
 
 least-row-requires : tie.Need-least-row-requires
 least-row-requires c κs =
     let g = c .before .before .before .before .before .before in
     let s = g .args in
-    let n = netOf (s .top) (s .vars) (s .functions) (s .sizes .now) (s .scopes .now) in
-    let live = liveIn (s .sizes .now) (s .node .now) in
-    let may = by-and (by-between 1 (s .top) (s .amount)) (by-ltb (s .i) (s .vars)) .says (so (sym (c .before .before .before .before .may-raise .ensures) ∙ not-false _ (c .before .before .before .if1 .left))) in
-    row-sits (s .top) (s .vars) (s .functions) (s .sizes .now) (s .scopes .now) (s .starts .now) (s .firsts .now) (s .node .now) (length (s .table .now)) (g .pre) (s .i) (may .1) (c .before .before .live-span .result) (c .before .unary-start .result) (c .before .before .live-span .ensures) (c .before .unary-start .ensures)
+    let may = raise-may (s .top) (s .vars) (s .i) (s .amount) (c .before .before .before .before .may-raise .result) (c .before .before .before .before .may-raise .ensures) (not-false (c .before .before .before .before .may-raise .result) (c .before .before .before .if1 .left)) in
+    row-sits (s .top) (s .vars) (s .functions) (s .sizes .now) (s .scopes .now) (s .starts .now) (s .firsts .now) (s .node .now) (length (s .table .now)) (g .pre) (s .i) (may) (c .before .before .live-span .result) (c .before .unary-start .result) (c .before .before .live-span .ensures) (c .before .unary-start .ensures)
 
 refused-requires-2 : tie.Need-refused-requires-2
 refused-requires-2 c κs = search needs
@@ -70,17 +59,15 @@ returns-2 c =
     let s = g .args in
     let n = netOf (s .top) (s .vars) (s .functions) (s .sizes .now) (s .scopes .now) in
     let live = liveIn (s .sizes .now) (s .node .now) in
-    let may = by-and (by-between 1 (s .top) (s .amount)) (by-ltb (s .i) (s .vars)) .says (so (sym (c .before .before .before .before .before .before .before .may-raise .ensures) ∙ not-false _ (c .before .before .before .before .before .before .if1 .left))) in
-    rw (c .refused2 .ensures) (tried-less n live (Raise (s .i) (s .amount)) (s .constant) (s .amount) (s .table .now) (c .before .before .before .before .before .before .before .may-raise .result) (c .before .before .least-row .result) (legal-raise n live (costsOf (s .constant) (s .table .now)) (s .i) (s .amount) (c .before .before .before .before .before .before .before .may-raise .result) (c .before .before .least-row .result) (c .before .before .before .before .before .before .before .may-raise .ensures) (row-least (s .top) (s .vars) (s .functions) (s .sizes .now) (s .scopes .now) (s .node .now) (s .i) (may .1) (c .before .before .before .before .before .live-span .result) (c .before .before .before .before .unary-start .result) (c .before .before .least-row .result) (s .constant) (s .table .now) (c .before .before .before .before .before .live-span .ensures) (c .before .before .before .before .unary-start .ensures ∙ g .pre .first (s .i) (may .1)) (c .before .before .least-row .ensures))) (c .before .if2 .taken))
+    let may = raise-may (s .top) (s .vars) (s .i) (s .amount) (c .before .before .before .before .before .before .before .may-raise .result) (c .before .before .before .before .before .before .before .may-raise .ensures) (not-false (c .before .before .before .before .before .before .before .may-raise .result) (c .before .before .before .before .before .before .if1 .left)) in
+    rw (c .refused2 .ensures) (tried-less n live (Raise (s .i) (s .amount)) (s .constant) (s .amount) (s .table .now) (c .before .before .before .before .before .before .before .may-raise .result) (c .before .before .least-row .result) (legal-raise n live (costsOf (s .constant) (s .table .now)) (s .i) (s .amount) (c .before .before .before .before .before .before .before .may-raise .result) (c .before .before .least-row .result) (c .before .before .before .before .before .before .before .may-raise .ensures) (row-least (s .top) (s .vars) (s .functions) (s .sizes .now) (s .scopes .now) (s .node .now) (s .i) (may) (c .before .before .before .before .before .live-span .result) (c .before .before .before .before .unary-start .result) (c .before .before .least-row .result) (s .constant) (s .table .now) (c .before .before .before .before .before .live-span .ensures) (c .before .before .before .before .unary-start .ensures ∙ g .pre .first (s .i) (may)) (c .before .before .least-row .ensures))) (c .before .if2 .taken))
 
 change-row-requires : tie.Need-change-row-requires
 change-row-requires c κs =
     let g = c .before .before .before .before .before .before .before .before .before in
     let s = g .args in
-    let n = netOf (s .top) (s .vars) (s .functions) (s .sizes .now) (s .scopes .now) in
-    let live = liveIn (s .sizes .now) (s .node .now) in
-    let may = by-and (by-between 1 (s .top) (s .amount)) (by-ltb (s .i) (s .vars)) .says (so (sym (c .before .before .before .before .before .before .before .may-raise .ensures) ∙ not-false _ (c .before .before .before .before .before .before .if1 .left))) in
-    row-sits (s .top) (s .vars) (s .functions) (s .sizes .now) (s .scopes .now) (s .starts .now) (s .firsts .now) (s .node .now) (length (s .table .now)) (g .pre) (s .i) (may .1) (c .before .before .before .before .before .live-span .result) (c .before .before .before .before .unary-start .result) (c .before .before .before .before .before .live-span .ensures) (c .before .before .before .before .unary-start .ensures)
+    let may = raise-may (s .top) (s .vars) (s .i) (s .amount) (c .before .before .before .before .before .before .before .may-raise .result) (c .before .before .before .before .before .before .before .may-raise .ensures) (not-false (c .before .before .before .before .before .before .before .may-raise .result) (c .before .before .before .before .before .before .if1 .left)) in
+    row-sits (s .top) (s .vars) (s .functions) (s .sizes .now) (s .scopes .now) (s .starts .now) (s .firsts .now) (s .node .now) (length (s .table .now)) (g .pre) (s .i) (may) (c .before .before .before .before .before .live-span .result) (c .before .before .before .before .unary-start .result) (c .before .before .before .before .before .live-span .ensures) (c .before .before .before .before .unary-start .ensures)
 
 plus-of-requires : tie.Need-plus-of-requires
 plus-of-requires c κs = search needs
@@ -94,10 +81,10 @@ returns-3 c =
     let s = g .args in
     let n = netOf (s .top) (s .vars) (s .functions) (s .sizes .now) (s .scopes .now) in
     let live = liveIn (s .sizes .now) (s .node .now) in
-    let may = by-and (by-between 1 (s .top) (s .amount)) (by-ltb (s .i) (s .vars)) .says (so (sym (c .before .before .before .before .before .before .before .before .before .before .before .may-raise .ensures) ∙ not-false _ (c .before .before .before .before .before .before .before .before .before .before .if1 .left))) in
-    rw (c .plus-of .ensures) (tried-enough n live (Raise (s .i) (s .amount)) (s .constant) (s .amount) (s .table .now) (c .before .before .before .before .before .before .before .before .before .before .before .may-raise .result) (c .before .before .before .before .before .before .least-row .result) (legal-raise n live (costsOf (s .constant) (s .table .now)) (s .i) (s .amount) (c .before .before .before .before .before .before .before .before .before .before .before .may-raise .result) (c .before .before .before .before .before .before .least-row .result) (c .before .before .before .before .before .before .before .before .before .before .before .may-raise .ensures) (row-least (s .top) (s .vars) (s .functions) (s .sizes .now) (s .scopes .now) (s .node .now) (s .i) (may .1) (c .before .before .before .before .before .before .before .before .before .live-span .result) (c .before .before .before .before .before .before .before .before .unary-start .result) (c .before .before .before .before .before .before .least-row .result) (s .constant) (s .table .now) (c .before .before .before .before .before .before .before .before .before .live-span .ensures) (c .before .before .before .before .before .before .before .before .unary-start .ensures ∙ g .pre .first (s .i) (may .1)) (c .before .before .before .before .before .before .least-row .ensures))) _ (c .before .before .before .change-row .last .0) (not-false _ (c .before .before .before .before .before .before .before .before .before .before .if1 .left)) (c .before .before .before .before .before .if2 .left)
-    (raises (s .top) (s .vars) (s .functions) (s .sizes .now) (s .scopes .now) (s .node .now) (s .i) (may .1) (c .before .before .before .before .before .before .before .before .before .live-span .result) (c .before .before .before .before .before .before .before .before .unary-start .result) (s .amount) (s .constant) (s .table .now) (c .before .before .before .change-row .last .0)
-    (c .before .before .before .before .before .before .before .before .before .live-span .ensures) (c .before .before .before .before .before .before .before .before .unary-start .ensures ∙ g .pre .first (s .i) (may .1)) (c .before .before .before .change-row .ensures)))
+    let may = raise-may (s .top) (s .vars) (s .i) (s .amount) (c .before .before .before .before .before .before .before .before .before .before .before .may-raise .result) (c .before .before .before .before .before .before .before .before .before .before .before .may-raise .ensures) (not-false (c .before .before .before .before .before .before .before .before .before .before .before .may-raise .result) (c .before .before .before .before .before .before .before .before .before .before .if1 .left)) in
+    rw (c .plus-of .ensures) (tried-enough n live (Raise (s .i) (s .amount)) (s .constant) (s .amount) (s .table .now) (c .before .before .before .before .before .before .before .before .before .before .before .may-raise .result) (c .before .before .before .before .before .before .least-row .result) (legal-raise n live (costsOf (s .constant) (s .table .now)) (s .i) (s .amount) (c .before .before .before .before .before .before .before .before .before .before .before .may-raise .result) (c .before .before .before .before .before .before .least-row .result) (c .before .before .before .before .before .before .before .before .before .before .before .may-raise .ensures) (row-least (s .top) (s .vars) (s .functions) (s .sizes .now) (s .scopes .now) (s .node .now) (s .i) (may) (c .before .before .before .before .before .before .before .before .before .live-span .result) (c .before .before .before .before .before .before .before .before .unary-start .result) (c .before .before .before .before .before .before .least-row .result) (s .constant) (s .table .now) (c .before .before .before .before .before .before .before .before .before .live-span .ensures) (c .before .before .before .before .before .before .before .before .unary-start .ensures ∙ g .pre .first (s .i) (may)) (c .before .before .before .before .before .before .least-row .ensures))) _ (c .before .before .before .change-row .last .0) (not-false (c .before .before .before .before .before .before .before .before .before .before .before .may-raise .result) (c .before .before .before .before .before .before .before .before .before .before .if1 .left)) (c .before .before .before .before .before .if2 .left)
+    (raises (s .top) (s .vars) (s .functions) (s .sizes .now) (s .scopes .now) (s .node .now) (s .i) (may) (c .before .before .before .before .before .before .before .before .before .live-span .result) (c .before .before .before .before .before .before .before .before .unary-start .result) (s .amount) (s .constant) (s .table .now) (c .before .before .before .change-row .last .0)
+    (c .before .before .before .before .before .before .before .before .before .live-span .ensures) (c .before .before .before .before .before .before .before .before .unary-start .ensures ∙ g .pre .first (s .i) (may)) (c .before .before .before .change-row .ensures)))
 
 pub raise-spec : {M : Type 1} → statement M
 raise-spec =

@@ -1,4 +1,3 @@
-use mathlib.Core.Path.{sym}
 use borrow.Author.Needs.{needs}
 use Rattle.shifts.proofs.moves.try_shift.Statement.{statement}
 use Rattle.shifts.proofs.moves.try_shift.Tie as tie

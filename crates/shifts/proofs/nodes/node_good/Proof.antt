@@ -1,10 +1,10 @@
-use Rattle.shifts.proofs.NodeLaws.{by-bytes}
-use Rattle.costs.proofs.TestLaws.{yes-by, no-by}
-use borrow.Author.Count.{below-more}
-use lib.ListN.{getD}
 use Prim.Native.Nat.{ℕ, _≤_, _<_, _-_}
 use native.Mathlib.Omega.{arith}
+use lib.ListN.{getD}
+use borrow.Author.Count.{below-more}
 use borrow.Author.Needs.{needs}
+use Rattle.shifts.proofs.NodeLaws.{by-bytes}
+use Rattle.costs.proofs.TestLaws.{yes-by, no-by}
 use Rattle.shifts.proofs.nodes.node_good.Statement.{statement}
 use Rattle.shifts.proofs.nodes.node_good.Tie as tie
 

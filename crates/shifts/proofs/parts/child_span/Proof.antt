@@ -1,6 +1,6 @@
-use Rattle.shifts.proofs.PartLaws.{child-here, child-else}
 use mathlib.Core.Path.{_∙_}
 use borrow.Author.Needs.{needs}
+use Rattle.shifts.proofs.PartLaws.{child-here, child-else}
 use Rattle.shifts.proofs.parts.child_span.Statement.{statement}
 use Rattle.shifts.proofs.parts.child_span.Tie as tie
 

@@ -1,10 +1,10 @@
+use Prim.Native.Nat.{_<_}
+use mathlib.Core.Path.{sym}
+use native.Mathlib.Omega.{arith}
+use borrow.Author.Needs.{needs}
 use Rattle.shifts.proofs.PartLaws.{holds-two, holds-three}
 use Rattle.costs.proofs.RowLaws.{met}
 use Rattle.costs.specs.Networks.{inRow}
-use native.Mathlib.Omega.{arith}
-use mathlib.Core.Path.{sym}
-use Prim.Native.Nat.{_<_}
-use borrow.Author.Needs.{needs}
 use Rattle.shifts.proofs.parts.function_block.Statement.{statement}
 use Rattle.shifts.proofs.parts.function_block.Tie as tie
 

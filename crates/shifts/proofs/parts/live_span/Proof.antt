@@ -1,10 +1,5 @@
-use Rattle.shifts.proofs.PartLaws.{span-free, span-fixed}
-use Rattle.shifts.specs.Parts.{spanOf}
-use lib.ListN.{getD}
-use native.Mathlib.Omega.{arith}
-use mathlib.Core.Path.{_≡_, _∙_}
-use Prim.Native.Nat.{ℕ, _-_}
 use borrow.Author.Needs.{needs}
+use Rattle.shifts.proofs.PartLaws.{span-free, span-fixed}
 use Rattle.shifts.proofs.parts.live_span.Statement.{statement}
 use Rattle.shifts.proofs.parts.live_span.Tie as tie
 
@@ -16,7 +11,6 @@ byte-at-requires-2 c κs = search needs
 
 returns : tie.Need-returns
 returns c =
-    let s = c .before .before .before .args in
     let x = c .before .byte-at2 .ensures in
     let d = c .before .before .byte-at .ensures in
     rw (← d, ← x) (span-free _ _ (c .if1 .taken))
@@ -26,7 +20,6 @@ sub-t7 c = search needs
 
 returns-2 : tie.Need-returns-2
 returns-2 c =
-    let s = c .before .before .before .args in
     let x = c .before .byte-at2 .ensures in
     let d = c .before .before .byte-at .ensures in
     rw (← d, ← x) (span-fixed _ _ (c .if1 .left))

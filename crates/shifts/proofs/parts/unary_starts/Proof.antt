@@ -1,12 +1,12 @@
+use Prim.Native.Nat.{ℕ, _≤_, _<_, _-_, _*_}
+use mathlib.Core.Path.{_≡_}
+use native.Mathlib.Omega.{arith}
+use lib.ListN.{length, getD, length-set}
+use borrow.Author.Needs.{needs}
 use Rattle.shifts.proofs.PlaceLaws.{filled-more}
 use Rattle.costs.proofs.RangeLaws.{sumTo-next}
 use Rattle.costs.specs.Range.{sumTo}
 use Rattle.costs.specs.Limits.{varsMost, sizeMost}
-use lib.ListN.{length, getD, length-set}
-use native.Mathlib.Omega.{arith}
-use mathlib.Core.Path.{_≡_, refl}
-use Prim.Native.Nat.{ℕ, _≤_, _<_, _-_, _*_}
-use borrow.Author.Needs.{needs}
 use Rattle.shifts.proofs.parts.unary_starts.Statement.{statement}
 use Rattle.shifts.proofs.parts.unary_starts.Tie as tie
 
@@ -31,7 +31,6 @@ byte-at-requires c κs = search needs
 add-at : tie.Need-add-at Inv-loop μ-loop
 add-at c =
     let k = c .before .before in
-    let s = k .before .args in
     omega (arith, k .before .pre .1 (k .loop .v) (omega arith))
 
 add-v : tie.Need-add-v Inv-loop μ-loop
@@ -56,7 +55,6 @@ loop-again c =
 returns : tie.Need-returns Inv-loop μ-loop
 returns c =
     let k = c .before in
-    let s = k .before .args in
     λ w l. k .loop .inv .4 w (omega arith)
 
 pub unary-starts-spec : {M : Type 1} → statement M

@@ -1,10 +1,10 @@
-use Rattle.shifts.proofs.TurnLaws.{pass-takes}
-use Rattle.shifts.specs.Nodes.{liveIn, fixed}
-use Rattle.costs.specs.Networks.{netOf}
-use lib.ListN.{length, getD}
-use mathlib.Core.Path.{_≡_, refl, sym, ap, _∙_}
+use mathlib.Core.Path.{_≡_}
 use native.Mathlib.Omega.{arith}
+use lib.ListN.{length}
 use borrow.Author.Needs.{needs}
+use Rattle.shifts.proofs.TurnLaws.{pass-takes}
+use Rattle.shifts.specs.Nodes.{liveIn}
+use Rattle.costs.specs.Networks.{netOf}
 use Rattle.shifts.proofs.passing.pass_over.Statement.{statement}
 use Rattle.shifts.proofs.passing.pass_over.Tie as tie
 
@@ -15,8 +15,6 @@ raise-all-requires : tie.Need-raise-all-requires
 raise-all-requires c κs =
     let g = c .before .before .before .before .before .before in
     let s = g .args in
-    let n = netOf (s .top) (s .vars) (s .functions) (s .sizes .now) (s .scopes .now) in
-    let live = liveIn (s .sizes .now) (s .node .now) in
     let q : length (c .before .before .before .project-all .last .0) ≡ length (s .table .now) = omega (arith, c .before .before .before .project-all .kept .0) in
     (rw q (g .pre .0), g .pre .1)
 

@@ -1,14 +1,14 @@
+use Prim.Native.Nat.{_≤_, _-_, _+_}
+use mathlib.Core.Path.{_≡_}
+use native.Mathlib.Omega.{arith}
+use lib.ListN.{length}
+use borrow.Author.Needs.{needs}
 use Rattle.shifts.proofs.TurnLaws.{takes-next, scope-takes, projections-all}
 use Rattle.shifts.specs.Turns.{Turns}
 use Rattle.shifts.specs.Passing.{atScope}
 use Rattle.shifts.specs.Loops.{eachTo}
-use Prim.Native.Nat.{_≤_, _-_, _+_}
-use Rattle.shifts.specs.Nodes.{liveIn, fixed}
+use Rattle.shifts.specs.Nodes.{liveIn}
 use Rattle.costs.specs.Networks.{netOf}
-use lib.ListN.{length, getD}
-use mathlib.Core.Path.{_≡_, refl, sym, ap, _∙_}
-use native.Mathlib.Omega.{arith}
-use borrow.Author.Needs.{needs}
 use Rattle.shifts.proofs.passing.project_all.Statement.{statement}
 use Rattle.shifts.proofs.passing.project_all.Tie as tie
 
@@ -19,19 +19,12 @@ abbrev μ-loop : tie.MeasureT-loop
 μ-loop table₀ sizes scopes starts firsts node top vars functions f₀ table f = functions - f
 
 loop-holds : tie.Need-loop-holds Inv-loop μ-loop
-loop-holds c =
-    let g = c .before in
-    let s = g .args in
-    let n = netOf (s .top) (s .vars) (s .functions) (s .sizes .now) (s .scopes .now) in
-    let live = liveIn (s .sizes .now) (s .node .now) in
-    (search needs, search needs, λ z w e. e)
+loop-holds c = (search needs, search needs, λ z w e. e)
 
 project-scope-requires : tie.Need-project-scope-requires Inv-loop μ-loop
 project-scope-requires c κs =
     let g = c .before .before .before .before in
     let s = g .args in
-    let n = netOf (s .top) (s .vars) (s .functions) (s .sizes .now) (s .scopes .now) in
-    let live = liveIn (s .sizes .now) (s .node .now) in
     let k = c .before .before in
     let q : length (k .loop .table) ≡ length (s .table .now) = k .loop .inv .1 in
     (rw q (g .pre), search needs)
@@ -62,8 +55,6 @@ returns : tie.Need-returns Inv-loop μ-loop
 returns c =
     let g = c .before .before .before in
     let s = g .args in
-    let n = netOf (s .top) (s .vars) (s .functions) (s .sizes .now) (s .scopes .now) in
-    let live = liveIn (s .sizes .now) (s .node .now) in
     let k = c .before in
     let e : k .loop .f ≡ s .functions = omega arith in
     projections-all (s .top) (s .vars) (s .functions) (s .sizes .now) (s .scopes .now) (s .node .now) (s .table .now) (k .loop .table) (rw e at (k .loop .inv .2))

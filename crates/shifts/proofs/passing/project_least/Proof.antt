@@ -1,31 +1,25 @@
+use Prim.Native.Nat.{ℕ, _+_}
+use mathlib.Core.Path.{sym, ap, _∙_}
+use native.Mathlib.Omega.{arith}
+use lib.ListN.{length}
+use borrow.Author.Needs.{needs}
 use Rattle.shifts.proofs.TurnLaws.{value-takes, takes-zero, takes-some}
 use Rattle.shifts.proofs.MoveLaws.{block-least, unary-roomy, projects}
 use Rattle.shifts.proofs.PartLaws.{roomier}
 use Rattle.shifts.specs.declared.moves.Move.the-variants.{Project}
-use Prim.Native.Nat.{ℕ, _+_}
 use Rattle.shifts.specs.Nodes.{liveIn, fixed}
 use Rattle.costs.specs.Networks.{netOf}
-use lib.ListN.{length, getD}
-use mathlib.Core.Path.{_≡_, refl, sym, ap, _∙_}
-use native.Mathlib.Omega.{arith}
-use borrow.Author.Needs.{needs}
 use Rattle.shifts.proofs.passing.project_least.Statement.{statement}
 use Rattle.shifts.proofs.passing.project_least.Tie as tie
 
 function-block-requires : tie.Need-function-block-requires
 function-block-requires c κs =
     let g = c .before in
-    let s = g .args in
-    let n = netOf (s .top) (s .vars) (s .functions) (s .sizes .now) (s .scopes .now) in
-    let live = liveIn (s .sizes .now) (s .node .now) in
     (g .pre .0 .ready, (g .pre .0 .node, (g .pre .1 .0, g .pre .1 .1, g .pre .1 .2)))
 
 least-block-requires : tie.Need-least-block-requires
 least-block-requires c κs =
     let g = c .before .before .before in
-    let s = g .args in
-    let n = netOf (s .top) (s .vars) (s .functions) (s .sizes .now) (s .scopes .now) in
-    let live = liveIn (s .sizes .now) (s .node .now) in
     roomier (c .before .function-block .ensures .sits) (g .pre .0 .roomy)
 
 same-length : tie.Need-same-length
@@ -44,33 +38,23 @@ returns c =
 unary-start-requires : tie.Need-unary-start-requires
 unary-start-requires c κs =
     let g = c .before .before .before .before .before in
-    let s = g .args in
-    let n = netOf (s .top) (s .vars) (s .functions) (s .sizes .now) (s .scopes .now) in
-    let live = liveIn (s .sizes .now) (s .node .now) in
     omega (arith, g .pre .1 .1, g .pre .0 .ready .scoped .vars-few)
 
 add-at : tie.Need-add-at
 add-at c =
     let g = c .before .before .before .before .before .before in
     let s = g .args in
-    let n = netOf (s .top) (s .vars) (s .functions) (s .sizes .now) (s .scopes .now) in
-    let live = liveIn (s .sizes .now) (s .node .now) in
     omega (arith, g .pre .1 .2, c .unary-start .ensures, unary-roomy (s .top) (s .vars) (s .functions) (s .sizes .now) (s .scopes .now) (s .starts .now) (s .firsts .now) (s .node .now) (length (s .table .now)) (g .pre .0) (s .i) (g .pre .1 .1))
 
 change-block-requires : tie.Need-change-block-requires
 change-block-requires c κs =
     let g = c .before .before .before .before .before .before .before in
-    let s = g .args in
-    let n = netOf (s .top) (s .vars) (s .functions) (s .sizes .now) (s .scopes .now) in
-    let live = liveIn (s .sizes .now) (s .node .now) in
     roomier (c .before .before .before .before .before .function-block .ensures .sits) (g .pre .0 .roomy)
 
 change-one-requires : tie.Need-change-one-requires
 change-one-requires c κs =
     let g = c .before .before .before .before .before .before .before .before .before .before .before in
     let s = g .args in
-    let n = netOf (s .top) (s .vars) (s .functions) (s .sizes .now) (s .scopes .now) in
-    let live = liveIn (s .sizes .now) (s .node .now) in
     omega (arith, g .pre .1 .2, c .before .before .before .before .before .unary-start .ensures, unary-roomy (s .top) (s .vars) (s .functions) (s .sizes .now) (s .scopes .now) (s .starts .now) (s .firsts .now) (s .node .now) (length (s .table .now)) (g .pre .0) (s .i) (g .pre .1 .1), c .before .before .before .change-block .kept .0)
 
 same-length-2 : tie.Need-same-length-2

@@ -1,13 +1,12 @@
+use Prim.Native.Nat.{_+_, _≤_, _<_, _-_}
+use mathlib.Core.Path.{_≡_}
+use native.Mathlib.Omega.{arith}
+use lib.ListN.{length}
+use borrow.Author.Needs.{needs}
 use Rattle.shifts.proofs.TurnLaws.{Midway, midway-none, midway-next, midway-all}
 use Rattle.costs.proofs.RowLaws.{rest, rest-next, rest-end, met}
-use Rattle.costs.specs.Networks.{inRow, scopeIn}
-use Prim.Native.Nat.{_+_, _≤_, _<_, _-_}
-use Rattle.shifts.specs.Nodes.{liveIn, fixed}
-use Rattle.costs.specs.Networks.{netOf}
-use lib.ListN.{length, getD}
-use mathlib.Core.Path.{_≡_, refl, sym, ap, _∙_}
-use native.Mathlib.Omega.{arith}
-use borrow.Author.Needs.{needs}
+use Rattle.costs.specs.Networks.{inRow, scopeIn, netOf}
+use Rattle.shifts.specs.Nodes.{liveIn}
 use Rattle.shifts.proofs.passing.project_scope.Statement.{statement}
 use Rattle.shifts.proofs.passing.project_scope.Tie as tie
 
@@ -20,9 +19,6 @@ abbrev μ-loop : tie.MeasureT-loop
 row-at-requires : tie.Need-row-at-requires Inv-loop μ-loop
 row-at-requires c κs =
     let g = c .before in
-    let s = g .args in
-    let n = netOf (s .top) (s .vars) (s .functions) (s .sizes .now) (s .scopes .now) in
-    let live = liveIn (s .sizes .now) (s .node .now) in
     omega (arith, g .pre .1, g .pre .0 .ready .scoped .functions-few)
 
 loop-holds : tie.Need-loop-holds Inv-loop μ-loop
@@ -40,16 +36,12 @@ row-at-requires-2 : tie.Need-row-at-requires-2 Inv-loop μ-loop
 row-at-requires-2 c κs =
     let g = c .before .before .before .before in
     let s = g .args in
-    let n = netOf (s .top) (s .vars) (s .functions) (s .sizes .now) (s .scopes .now) in
-    let live = liveIn (s .sizes .now) (s .node .now) in
     omega (arith, g .pre .1, g .pre .0 .ready .scoped .functions-few, g .pre .0 .ready .scoped .arity-most (s .f) (g .pre .1))
 
 project-values-requires : tie.Need-project-values-requires Inv-loop μ-loop
 project-values-requires c κs =
     let g = c .before .before .before .before .before .before in
     let s = g .args in
-    let n = netOf (s .top) (s .vars) (s .functions) (s .sizes .now) (s .scopes .now) in
-    let live = liveIn (s .sizes .now) (s .node .now) in
     let k = c .before .before .before in
     let q : length (k .loop .table) ≡ length (s .table .now) = k .loop .inv .2 in
     let r = g .pre .0 .ready .scoped in (

@@ -1,20 +1,18 @@
+use Prim.Native.Nat.{_≤_, _-_}
+use mathlib.Core.Path.{_≡_}
+use native.Mathlib.Omega.{arith}
+use lib.ListN.{length, getD}
+use borrow.Author.Needs.{needs}
 use Rattle.shifts.proofs.TurnLaws.{takes-next, values-none, values-all}
 use Rattle.shifts.proofs.MoveLaws.{by-live}
 use Rattle.shifts.proofs.PartLaws.{span-in, live-size}
 use Rattle.costs.proofs.TestLaws.{is-true}
-use Rattle.shifts.specs.Parts.{liveSpan}
 use Rattle.shifts.specs.Boxes.{InSize}
 use Rattle.shifts.specs.Turns.{Turns}
 use Rattle.shifts.specs.Passing.{atValue}
 use Rattle.shifts.specs.Loops.{eachTo}
-use mathlib.Core.Bool.{true}
-use Prim.Native.Nat.{_≤_, _<_, _-_}
-use Rattle.shifts.specs.Nodes.{liveIn, fixed}
+use Rattle.shifts.specs.Nodes.{liveIn}
 use Rattle.costs.specs.Networks.{netOf}
-use lib.ListN.{length, getD}
-use mathlib.Core.Path.{_≡_, refl, sym, ap, _∙_}
-use native.Mathlib.Omega.{arith}
-use borrow.Author.Needs.{needs}
 use Rattle.shifts.proofs.passing.project_values.Statement.{statement}
 use Rattle.shifts.proofs.passing.project_values.Tie as tie
 
@@ -27,17 +25,12 @@ abbrev μ-loop : tie.MeasureT-loop
 live-span-requires : tie.Need-live-span-requires Inv-loop μ-loop
 live-span-requires c κs =
     let g = c .before in
-    let s = g .args in
-    let n = netOf (s .top) (s .vars) (s .functions) (s .sizes .now) (s .scopes .now) in
-    let live = liveIn (s .sizes .now) (s .node .now) in
     omega (arith, g .pre .1, g .pre .0 .ready .scoped .vars-few)
 
 loop-holds : tie.Need-loop-holds Inv-loop μ-loop
 loop-holds c =
     let g = c .before .before in
     let s = g .args in
-    let n = netOf (s .top) (s .vars) (s .functions) (s .sizes .now) (s .scopes .now) in
-    let live = liveIn (s .sizes .now) (s .node .now) in
     let i : InSize (c .live-span .result) = rw (c .live-span .ensures) (span-in (getD (s .node .now) (s .i) 0) (getD (s .sizes .now) (s .i) 0) (g .pre .0 .node (s .i) (g .pre .1 .1))) in
     (search needs, omega (arith, i), search needs, values-none (s .top) (s .vars) (s .functions) (s .sizes .now) (s .scopes .now) (s .node .now) (s .f) (s .i) (c .live-span .result) (s .table .now) (c .live-span .ensures))
 
@@ -45,8 +38,6 @@ project-least-requires : tie.Need-project-least-requires Inv-loop μ-loop
 project-least-requires c κs =
     let g = c .before .before .before .before .before .before in
     let s = g .args in
-    let n = netOf (s .top) (s .vars) (s .functions) (s .sizes .now) (s .scopes .now) in
-    let live = liveIn (s .sizes .now) (s .node .now) in
     let k = c .before .before .before in
     let q : length (k .loop .table) ≡ length (s .table .now) = k .loop .inv .2 in
     let e = c .before .before .before .before .live-span .ensures in
@@ -80,8 +71,6 @@ returns : tie.Need-returns Inv-loop μ-loop
 returns c =
     let g = c .before .before .before .before .before in
     let s = g .args in
-    let n = netOf (s .top) (s .vars) (s .functions) (s .sizes .now) (s .scopes .now) in
-    let live = liveIn (s .sizes .now) (s .node .now) in
     let k = c .before .before in
     let e = c .before .before .before .live-span .ensures in
     let i : InSize (c .before .before .before .live-span .result) = rw e (span-in (getD (s .node .now) (s .i) 0) (getD (s .sizes .now) (s .i) 0) (g .pre .0 .node (s .i) (g .pre .1 .1))) in

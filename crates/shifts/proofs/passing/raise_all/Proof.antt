@@ -1,14 +1,14 @@
+use Prim.Native.Nat.{_≤_, _-_}
+use mathlib.Core.Path.{_≡_}
+use native.Mathlib.Omega.{arith}
+use lib.ListN.{length}
+use borrow.Author.Needs.{needs}
 use Rattle.shifts.proofs.TurnLaws.{takes-next}
 use Rattle.shifts.specs.Turns.{Takes}
 use Rattle.shifts.specs.Passing.{atVariable}
 use Rattle.shifts.specs.Loops.{eachTo}
-use Prim.Native.Nat.{_≤_, _-_}
-use Rattle.shifts.specs.Nodes.{liveIn, fixed}
+use Rattle.shifts.specs.Nodes.{liveIn}
 use Rattle.costs.specs.Networks.{netOf}
-use lib.ListN.{length, getD}
-use mathlib.Core.Path.{_≡_, refl, sym, ap, _∙_}
-use native.Mathlib.Omega.{arith}
-use borrow.Author.Needs.{needs}
 use Rattle.shifts.proofs.passing.raise_all.Statement.{statement}
 use Rattle.shifts.proofs.passing.raise_all.Tie as tie
 
@@ -19,19 +19,12 @@ abbrev μ-loop : tie.MeasureT-loop
 μ-loop table₀ sizes scopes starts firsts node top constant vars functions sum₀ i₀ table sum i = vars - i
 
 loop-holds : tie.Need-loop-holds Inv-loop μ-loop
-loop-holds c =
-    let g = c .before in
-    let s = g .args in
-    let n = netOf (s .top) (s .vars) (s .functions) (s .sizes .now) (s .scopes .now) in
-    let live = liveIn (s .sizes .now) (s .node .now) in
-    (search needs, search needs, search needs, λ w e. e)
+loop-holds c = (search needs, search needs, search needs, λ w e. e)
 
 raise-least-requires : tie.Need-raise-least-requires Inv-loop μ-loop
 raise-least-requires c κs =
     let g = c .before .before .before .before in
     let s = g .args in
-    let n = netOf (s .top) (s .vars) (s .functions) (s .sizes .now) (s .scopes .now) in
-    let live = liveIn (s .sizes .now) (s .node .now) in
     let k = c .before .before in
     let q : length (k .loop .table) ≡ length (s .table .now) = k .loop .inv .1 in
     (rw q (g .pre .0), search needs)
@@ -65,8 +58,6 @@ returns : tie.Need-returns Inv-loop μ-loop
 returns c =
     let g = c .before .before .before in
     let s = g .args in
-    let n = netOf (s .top) (s .vars) (s .functions) (s .sizes .now) (s .scopes .now) in
-    let live = liveIn (s .sizes .now) (s .node .now) in
     let k = c .before in
     let e : k .loop .i ≡ s .vars = omega arith in
     (rw e at (k .loop .inv .3))

@@ -1,39 +1,30 @@
+use mathlib.Core.Path.{_≡_, sym, _∙_}
+use native.Mathlib.Omega.{arith}
+use lib.ListN.{length}
+use borrow.Author.Needs.{needs}
 use Rattle.shifts.proofs.TurnLaws.{variable-takes, takes-zero, takes-some}
 use Rattle.shifts.proofs.MoveLaws.{row-least, row-sits, raises}
 use Rattle.shifts.specs.declared.moves.Move.the-variants.{Raise}
 use Rattle.costs.specs.Cost.{plus}
-use Prim.Native.Nat.{_≤_}
-use Rattle.shifts.specs.Nodes.{liveIn, fixed}
+use Rattle.shifts.specs.Nodes.{liveIn}
 use Rattle.costs.specs.Networks.{netOf}
-use lib.ListN.{length, getD}
-use mathlib.Core.Path.{_≡_, refl, sym, ap, _∙_}
-use native.Mathlib.Omega.{arith}
-use borrow.Author.Needs.{needs}
 use Rattle.shifts.proofs.passing.raise_least.Statement.{statement}
 use Rattle.shifts.proofs.passing.raise_least.Tie as tie
 
 live-span-requires : tie.Need-live-span-requires
 live-span-requires c κs =
     let g = c .before in
-    let s = g .args in
-    let n = netOf (s .top) (s .vars) (s .functions) (s .sizes .now) (s .scopes .now) in
-    let live = liveIn (s .sizes .now) (s .node .now) in
     omega (arith, g .pre .1, g .pre .0 .ready .scoped .vars-few)
 
 unary-start-requires : tie.Need-unary-start-requires
 unary-start-requires c κs =
     let g = c .before .before in
-    let s = g .args in
-    let n = netOf (s .top) (s .vars) (s .functions) (s .sizes .now) (s .scopes .now) in
-    let live = liveIn (s .sizes .now) (s .node .now) in
     omega (arith, g .pre .1, g .pre .0 .ready .scoped .vars-few)
 
 least-row-requires : tie.Need-least-row-requires
 least-row-requires c κs =
     let g = c .before .before .before .before in
     let s = g .args in
-    let n = netOf (s .top) (s .vars) (s .functions) (s .sizes .now) (s .scopes .now) in
-    let live = liveIn (s .sizes .now) (s .node .now) in
     row-sits (s .top) (s .vars) (s .functions) (s .sizes .now) (s .scopes .now) (s .starts .now) (s .firsts .now) (s .node .now) (length (s .table .now)) (g .pre .0) (s .i) (g .pre .1) (c .before .before .live-span .result) (c .before .unary-start .result) (c .before .before .live-span .ensures) (c .before .unary-start .ensures)
 
 same-length : tie.Need-same-length
@@ -54,8 +45,6 @@ change-row-requires : tie.Need-change-row-requires
 change-row-requires c κs =
     let g = c .before .before .before .before .before .before .before in
     let s = g .args in
-    let n = netOf (s .top) (s .vars) (s .functions) (s .sizes .now) (s .scopes .now) in
-    let live = liveIn (s .sizes .now) (s .node .now) in
     row-sits (s .top) (s .vars) (s .functions) (s .sizes .now) (s .scopes .now) (s .starts .now) (s .firsts .now) (s .node .now) (length (s .table .now)) (g .pre .0) (s .i) (g .pre .1) (c .before .before .before .before .before .live-span .result) (c .before .before .before .before .unary-start .result) (c .before .before .before .before .before .live-span .ensures) (c .before .before .before .before .unary-start .ensures)
 
 same-length-2 : tie.Need-same-length-2

@@ -1,0 +1,2 @@
+pub mod RecordsExist
+pub mod WrittenRecords

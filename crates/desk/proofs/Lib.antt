@@ -1,0 +1,10 @@
+pub mod FaultLaws
+pub mod HeaderLaws
+pub mod TableLaws
+pub mod CheckIsTheRules
+pub mod PlaceIsFirst
+pub mod AcceptedIsTrue
+pub mod ShowingLaws
+pub mod StandingLaws
+pub mod SteppingLaws
+pub mod RecordLaws

@@ -1,0 +1,86 @@
+-- Laws of the shown part. Assumes nothing.
+use Prim.Native.Nat.{ℕ, _+_, _-_, _≤_, _<_}
+use mathlib.Core.Path.{_≡_, refl}
+use mathlib.Core.Bool.{Bool, true, false, cond, _&&_}
+use mathlib.Core.List.{List, []}
+use native.Mathlib.Omega.{arith}
+use lib.Dec.{T, leb}
+use lib.ListN.{length, getD, take, drop}
+use Rattle.costs.specs.declared.networks.Network.{Network}
+use Rattle.costs.specs.declared.answers.Answer.{Answer}
+use Rattle.costs.specs.declared.answers.Answer.the-variants.{ShortTable, NotNetwork}
+use Rattle.costs.specs.declared.judging.Judged.the-variants.{Entries, Refused}
+use Rattle.costs.specs.Limits.{functionsMost, entriesMost}
+use Rattle.costs.specs.Net.{tuples, start, entries}
+use Rattle.costs.specs.Networks.{inRow, scopeIn, stands, Scoped}
+use Rattle.costs.specs.Judging.{isNetwork, judged}
+use Rattle.costs.proofs.TestLaws.{Decides, by-leb, by-ltb, by-and}
+use Rattle.costs.proofs.NetLaws.{stretch-below}
+use Rattle.costs.proofs.RowLaws.{scope-function}
+use Rattle.costs.proofs.JudgeLaws.{IsNetwork, by-network, network-ready}
+use Rattle.desk.specs.declared.showing.Which.{Which}
+use Rattle.desk.specs.Showing.{tableOf, wholeWith, mayShow, shownPart}
+
+-- the judge of a table alone
+pub whole-yes : (net : Network) (t : List ℕ) (many : ℕ) → judged net t (length t) ≡ Entries many → true ≡ wholeWith net t
+unfolding judged wholeWith
+whole-yes net t many e = go (isNetwork net t) (leb (entries (stands net)) (length t)) e
+  where
+    go : (a b : Bool) → cond a (cond b (Entries (entries (stands net))) (Refused ShortTable)) (Refused NotNetwork) ≡ Entries many → true ≡ (a && b)
+    go true true e = refl
+    go true false e = cc
+    go false b e = cc
+
+pub whole-no : (net : Network) (t : List ℕ) (a : Answer) → judged net t (length t) ≡ Refused a → false ≡ wholeWith net t
+unfolding judged wholeWith
+whole-no net t x e = go (isNetwork net t) (leb (entries (stands net)) (length t)) e
+  where
+    go : (a b : Bool) → cond a (cond b (Entries (entries (stands net))) (Refused ShortTable)) (Refused NotNetwork) ≡ Refused x → false ≡ (a && b)
+    go true true e = cc
+    go true false e = refl
+    go false b e = refl
+
+by-whole : (net : Network) (t : List ℕ) → Decides (wholeWith net t) (IsNetwork net t × (entries (stands net) ≤ length t))
+unfolding wholeWith
+by-whole net t = by-and (by-network net t) (by-leb (entries (stands net)) (length t))
+
+-- what is known where a part is shown: the stretch lies in both tables
+pub record Shows (net : Network) (held worked : List ℕ) (f : ℕ) : Type 0 where
+  pub scoped : Scoped (net .vars) (net .functions) (net .sizes) (net .scopes)
+  pub known : f < net .functions
+  pub few : net .functions ≤ functionsMost
+  pub placed : getD (net .starts) f 0 ≡ start (stands net) (net .vars + f)
+  pub below : getD (net .starts) f 0 + tuples (stands net .size) (scopeIn (inRow (net .scopes) f)) ≤ entries (stands net)
+  pub small : entries (stands net) ≤ entriesMost
+  pub held-whole : entries (stands net) ≤ length held
+  pub worked-whole : entries (stands net) ≤ length worked
+
+pub may-shows : (net : Network) (held worked : List ℕ) (f : ℕ) → T (mayShow net held worked f) → Shows net held worked f
+unfolding mayShow
+may-shows net held worked f t =
+    let h = by-and (by-whole net held) (by-and (by-whole net worked) (by-ltb f (net .functions))) .says t in
+    let ready = network-ready net held (h .0 .0) in
+    let l : f < net .functions = h .1 .1 in
+    record {
+      scoped = ready .scoped;
+      known = l;
+      few = ready .scoped .functions-few;
+      placed = ready .placed f l;
+      below = rw (ready .placed f l, ← (scope-function (net .top) (net .vars) (net .functions) (net .sizes) (net .scopes) f)) (stretch-below (stands net) (net .vars + f) (omega arith));
+      small = ready .few;
+      held-whole = h .0 .1;
+      worked-whole = h .1 .0 .1;
+    }
+
+-- the part from its start to its end is the stretch
+pub shown-part : (net : Network) (held worked : List ℕ) (which : Which) (f begins size : ℕ) → mayShow net held worked f ≡ true → begins ≡ getD (net .starts) f 0
+    → size ≡ tuples (stands net .size) (scopeIn (inRow (net .scopes) f)) → take (begins + size - begins) (drop begins (tableOf which held worked)) ≡ shownPart net held worked which f
+unfolding shownPart
+shown-part net held worked which f begins size t e q =
+    let s = may-shows net held worked f (rw t tt) in
+    let l : begins + size - begins ≡ size = omega arith in
+    rw (l, e, q, s .placed, t, scope-function (net .top) (net .vars) (net .functions) (net .sizes) (net .scopes) f)
+
+pub shown-empty : (net : Network) (held worked : List ℕ) (which : Which) (f : ℕ) → mayShow net held worked f ≡ false → [] ≡ shownPart net held worked which f
+unfolding shownPart
+shown-empty net held worked which f t = rw t

@@ -1,0 +1,4 @@
+pub mod TreeLaws
+pub mod KeptRules
+pub mod StepLaws
+pub mod WordLaws
