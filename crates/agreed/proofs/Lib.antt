@@ -1,2 +1,3 @@
 pub mod RecordsExist
 pub mod WrittenRecords
+pub mod FiledRecords

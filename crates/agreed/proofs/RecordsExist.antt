@@ -81,6 +81,50 @@ pub record Recorded (n : Net) (held : Costs) (W : ℕ) : Type 0 where
   pub keeps : Keeps (claimOf n held cost) steps
   pub small : All (λ w. w < W) (recordWords n cost plan steps)
 
+-- every word of such a record fits, if the count of its steps does
+module _ (N S F A W : ℕ) (n : Net) (held : Costs) (lim : Within N S F A n) (n-fits : N ≤ W) (s-fits : S ≤ W) (f-fits : F ≤ W) (k-fits : n .cap < W)
+    (plan : List ℕ) (cost : ℕ) (steps : List Step) (answer : RightAnswer n held plan cost) (keeps : Keeps (claimOf n held cost) steps) (room : 8 + N < W) (many : length steps < W) where
+  values : (All (λ w. w < W) plan) × (length plan ≤ N) × (cost ≤ n .cap)
+  values = ⊎-elim
+      (λ (h : NoneBelow n held plan cost). (rw (h .plan) tt, rw (h .plan) (omega arith), omega (arith, h .best)))
+      (λ (h : Cheapest n held plan cost). (
+        all-at (λ w. w < W) plan (λ j l. omega (arith, h .whole, h .plan .range j (omega (arith, h .whole)), lim .sizes j (omega (arith, h .whole)))),
+        omega (arith, h .whole, lim .vars),
+        omega (arith, h .below),
+      ))
+      answer
+
+  verdict : (t : Bool) → cond t 0 1 < W
+  verdict true = omega arith
+  verdict false = omega arith
+
+  pub words-small : All (λ w. w < W) (recordWords n cost plan steps)
+  words-small = (
+    omega arith,
+    (
+      omega (arith, lim .vars),
+      (
+        verdict (ltb cost (n .cap)),
+        (
+          omega (arith, values .2),
+          (
+            omega arith,
+            (
+              omega (arith, values .1),
+              (
+                omega (arith, values .1),
+                (
+                  many,
+                  All-append (λ w. w < W) plan (spell steps) (values .0) (spells-small N S F A W (claimOf n held cost) lim n-fits s-fits f-fits k-fits (omega arith) steps (root n ∷ []) none keeps),
+                ),
+              ),
+            ),
+          ),
+        ),
+      ),
+    ),
+  )
+
 -- "each network of at most 2^32 plans has a record", over the limits
 module _ (N S F A P W : ℕ) (n : Net) (good : Sound n) (held : Costs) (ok : held .base ≤ n .cap) (pos : 0 < n .cap) (lim : Within N S F A n) (few : plans n ≤ P)
     (room : 8 + N + 5 * ((F * (A * S) + N + 1) * ((N + 1) * P)) < W) (n-fits : N ≤ W) (s-fits : S ≤ W) (f-fits : F ≤ W) (k-fits : n .cap < W) where
@@ -110,16 +154,6 @@ module _ (N S F A P W : ℕ) (n : Net) (good : Sound n) (held : Costs) (ok : hel
     mul-le-mul {n₁ = F * (A * S) + N + 1} {m₁ = searched E never .count} {n₂ = F * (A * S) + N + 1} {m₂ = (N + 1) * P} (omega arith) nodes,
   )
 
-  values : (All (λ w. w < W) (searched E never .plan)) × (length (searched E never .plan) ≤ N) × (searched E never .best ≤ n .cap)
-  values = ⊎-elim
-      (λ (h : NoneBelow n held (searched E never .plan) (searched E never .best)). (rw (h .plan) tt, rw (h .plan) (omega arith), omega (arith, h .best)))
-      (λ (h : Cheapest n held (searched E never .plan) (searched E never .best)). (
-        all-at (λ w. w < W) (searched E never .plan) (λ j l. omega (arith, h .whole, h .plan .range j (omega (arith, h .whole)), lim .sizes j (omega (arith, h .whole)))),
-        omega (arith, h .whole, lim .vars),
-        omega (arith, h .below),
-      ))
-      answer
-
   pub recorded : Recorded n held W
   recorded = record {
     plan = searched E never .plan;
@@ -127,37 +161,8 @@ module _ (N S F A P W : ℕ) (n : Net) (good : Sound n) (held : Costs) (ok : hel
     steps = searched E never .steps;
     answer = answer;
     keeps = keeps;
-    small = (
-      omega arith,
-      (
-        omega (arith, lim .vars),
-        (
-          verdict (ltb (searched E never .best) (n .cap)),
-          (
-            omega (arith, values .2),
-            (
-              omega arith,
-              (
-                omega (arith, values .1),
-                (
-                  omega (arith, values .1),
-                  (
-                    omega (arith, long),
-                    All-append (λ w. w < W) (searched E never .plan) (spell (searched E never .steps)) (values .0)
-                        (spells-small N S F A W (claimOf n held (searched E never .best)) lim n-fits s-fits f-fits k-fits (omega arith) (searched E never .steps) (root n ∷ []) none keeps),
-                  ),
-                ),
-              ),
-            ),
-          ),
-        ),
-      ),
-    );
+    small = words-small N S F A W n held lim n-fits s-fits f-fits k-fits (searched E never .plan) (searched E never .best) (searched E never .steps) answer keeps (omega arith) (omega (arith, long));
   }
-    where
-      verdict : (t : Bool) → cond t 0 1 < W
-      verdict true = omega arith
-      verdict false = omega arith
 
 -- with the numbers of document 01
 pub recorded-01 : (n : Net) → Sound n → (held : Costs) → held .base ≤ n .cap → 0 < n .cap → n .cap ≤ costMost → Within varsMost sizeMost functionsMost 3 n → plans n ≤ 2 ^ 32 → Recorded n held (2 ^ 64)

@@ -197,7 +197,7 @@ pub record Lent (net : Network) (held : List ℕ) (room : ℕ) : Type 0 where
   pub room-enough : entries (stands net) ≤ room
 
 -- a judge that refuses does so with a number of its own
-judged-refuses : (net : Network) (t : List ℕ) (room : ℕ) → judged net t room ≡ Refused Done → ⊥
+pub judged-refuses : (net : Network) (t : List ℕ) (room : ℕ) → judged net t room ≡ Refused Done → ⊥
 unfolding judged
 judged-refuses net t room e = go (isNetwork net t) (leb (entries (stands net)) room) e
   where

@@ -38,7 +38,7 @@ use Rattle.search.specs.Doors.{Left, beginning, refusedSearch, finishedS
 use Rattle.search.proofs.FirstSearchRight.{first-answer}
 use Rattle.search.proofs.SpliceLaws.{values-size}
 
-zero-at : (n v : ℕ) → getD {A = ℕ} (replicate n 0) v 0 ≡ 0
+pub zero-at : (n v : ℕ) → getD {A = ℕ} (replicate n 0) v 0 ≡ 0
 zero-at n v = elim (decLt v n) [ yes l ↦ getD-replicate n v 0 0 l | no l ↦ List·getD-eq-default (replicate n 0) 0 (rw (length-replicate {A = ℕ} n 0) (omega (arith, l))) ]
 
 -- at the beginning no variable is fixed

@@ -1,0 +1,175 @@
+-- A finished search leaves a record that the desk accepts. Assumes nothing.
+use Prim.Native.Nat.{ℕ, zero, suc, _+_, _-_, _*_, _^_, _≤_, _<_, min}
+use mathlib.Core.Path.{_≡_, refl, sym, ap, _∙_, subst, fun-ext}
+use mathlib.Core.Bool.{Bool, true, false, cond}
+use mathlib.Core.List.{List, [], _∷_, _++_}
+use native.Mathlib.Omega.{arith}
+use native.Mathlib.Nat.{zero-mul}
+use native.Mathlib.Decide.{decLt}
+use lib.Dec.{leb}
+use lib.ListN.{length, getD, take, drop, replicate, length-append, List·getD-append, List·getD-eq-default}
+use lib.Seq.{take-at}
+use borrow.Author.Tests.{leb-true}
+use Rattle.costs.specs.declared.networks.Network.{Network}
+use Rattle.costs.specs.declared.answers.Answer.{Answer}
+use Rattle.costs.specs.declared.answers.Answer.the-variants.{Done, LongText, BadToken, OutOfRange, Unfitting, ListedTwice, TextAfter, ShortTable, NotNetwork, BadPlan, Illegal, OverBudget, LongRecord, BrokenRule}
+use Rattle.costs.specs.declared.judging.Judged.{Judged}
+use Rattle.costs.specs.declared.judging.Judged.the-variants.{Entries, Refused}
+use Rattle.costs.specs.Limits.{varsMost, sizeMost, functionsMost}
+use Rattle.costs.specs.Answers.{numberOf}
+use Rattle.costs.specs.Range.{sumTo}
+use Rattle.costs.specs.Net.{Net, Costs, All, entries, costsOf}
+use Rattle.costs.specs.Networks.{stands}
+use Rattle.costs.specs.Judging.{judged}
+use Rattle.costs.proofs.RangeLaws.{sumTo-same}
+use Rattle.costs.proofs.RowLaws.{scoped-sound}
+use Rattle.costs.proofs.JudgeLaws.{judged-passed, network-ready}
+use Rattle.shifts.proofs.PassLength.{scoped-within}
+use Rattle.records.specs.Words.{wordBytes, wordAt, bytesOf}
+use Rattle.records.specs.Steps.{spell}
+use Rattle.records.specs.Records.{headerWords, recordWords, KeepsRules, KeptBy}
+use Rattle.records.proofs.WordLaws.{bytesOf-many, words-back}
+use Rattle.records.proofs.StepLaws.{spell-many}
+use Rattle.desk.specs.Checking.{checked}
+use Rattle.desk.proofs.CheckIsTheRules.{Lent, judged-refuses, kept-accepted}
+use Rattle.search.specs.Engines.{State}
+use Rattle.search.specs.FirstSearch.{budget}
+use Rattle.search.specs.declared.results.Searched.{Searched}
+use Rattle.search.specs.Doors.{Left, recordBytes, finishedSearch, refusedLeft, finishedLeft, endedLeft, judgedLeft, searchOf, searchLeaves}
+use Rattle.search.proofs.FirstSearchRight.{first-answer, first-keeps}
+use Rattle.agreed.specs.Filed.{Filed, sizeTold}
+use Rattle.agreed.proofs.RecordsExist.{words-small}
+use Rattle.agreed.proofs.WrittenRecords.{tells, written-keeps}
+
+-- only success has the number 0
+pub done-said : (a : Answer) → numberOf a ≡ 0 → a ≡ Done
+done-said Done e = refl
+done-said LongText e = absurd (omega (arith, e))
+done-said (BadToken at) e = absurd (omega (arith, e))
+done-said (OutOfRange at) e = absurd (omega (arith, e))
+done-said (Unfitting at) e = absurd (omega (arith, e))
+done-said (ListedTwice at) e = absurd (omega (arith, e))
+done-said (TextAfter at) e = absurd (omega (arith, e))
+done-said ShortTable e = absurd (omega (arith, e))
+done-said NotNetwork e = absurd (omega (arith, e))
+done-said (BadPlan at) e = absurd (omega (arith, e))
+done-said Illegal e = absurd (omega (arith, e))
+done-said OverBudget e = absurd (omega (arith, e))
+done-said LongRecord e = absurd (omega (arith, e))
+done-said (BrokenRule at) e = absurd (omega (arith, e))
+
+all-get : (P : ℕ → Type 0) (xs : List ℕ) → All P xs → (i : ℕ) → i < length xs → P (getD xs i 0)
+all-get P [] h i l = absurd (omega arith)
+all-get P (x ∷ xs) h zero l = h .0
+all-get P (x ∷ xs) h (suc i) l = all-get P xs (h .1) i (omega arith)
+
+-- the bytes of small words tell them, and nothing past their end
+bytes-tell : (ws : List ℕ) → All (λ w. w < 2 ^ 64) ws → (w : ℕ) → wordAt (bytesOf ws) w ≡ tells ws w
+unfolding wordAt
+bytes-tell ws small w = elim (decLt w (length ws)) [
+  | yes l ↦ words-back ws w (all-get (λ x. x < 2 ^ 64) ws small) l
+  | no l ↦
+      sumTo-same wordBytes (λ j. 0) (λ j. getD (bytesOf ws) (w * wordBytes + j) 0 * 256 ^ j)
+      (λ j m. ap (λ (b : ℕ). b * 256 ^ j) (List·getD-eq-default (bytesOf ws) 0 {n = w * wordBytes + j} (omega (arith, l, bytesOf-many ws))) ∙ zero-mul (256 ^ j))
+      ∙ sym (List·getD-eq-default ws 0 {n = w} (omega (arith, l)))
+]
+
+kept-bytes : (n : Net) (held : Costs) (ws : List ℕ) → All (λ w. w < 2 ^ 64) ws → headerWords ≤ length ws → KeepsRules n held (tells ws) (length ws) → KeptBy n held (bytesOf ws)
+kept-bytes n held ws small header rules = record {
+  words = length ws;
+  whole = bytesOf-many ws;
+  header = header;
+  rules = subst (λ (f : ℕ → ℕ). KeepsRules n held f (length ws)) (sym (fun-ext (bytes-tell ws small))) rules;
+}
+
+front-word : (bytes rest : List ℕ) (w : ℕ) → w * wordBytes + wordBytes ≤ length bytes → wordAt (bytes ++ rest) w ≡ wordAt bytes w
+unfolding wordAt
+front-word bytes rest w l =
+    sumTo-same wordBytes (λ j. getD bytes (w * wordBytes + j) 0 * 256 ^ j) (λ j. getD (bytes ++ rest) (w * wordBytes + j) 0 * 256 ^ j)
+    (λ j m. ap (λ (b : ℕ). b * 256 ^ j) (List·getD-append bytes rest 0 (w * wordBytes + j) (omega (arith, l, m))))
+
+module _ (net : Network) (held work out : List ℕ) (limit : ℕ) where
+  abbrev room : ℕ
+  room = min (length held) (length work)
+
+  abbrev last : State
+  last = searchOf net held limit
+
+  abbrev bytes : List ℕ
+  bytes = recordBytes (stands net) last
+
+  -- what a search that was not refused has come through
+  record Ended : Type 0 where
+    many : ℕ
+    passed : Entries many ≡ judged net held room
+    ended : last .ended ≡ 0
+    fits : leb (length bytes) (length out) ≡ true
+
+  by-fits : (many : ℕ) → Entries many ≡ judged net held room → last .ended ≡ 0 → (b : Bool) → leb (length bytes) (length out) ≡ b
+      → cond b (record { result = finishedSearch (last .plan) (last .best) (last .count); out = bytes ++ replicate (length out - length bytes) 0 }) (refusedLeft (length out) LongRecord) .result .answer ≡ Done → Ended
+  by-fits many p x true f e = record { many = many; passed = p; ended = x; fits = f }
+  by-fits many p x false f e = absurd (omega (arith, ap numberOf e))
+
+  by-ended : (many : ℕ) → Entries many ≡ judged net held room → (x : ℕ) → last .ended ≡ x → endedLeft (stands net) true (length out) x last .result .answer ≡ Done → Ended
+  by-ended many p zero q e = by-fits many p q (leb (length bytes) (length out)) refl e
+  by-ended many p (suc x) q e = absurd (omega (arith, ap numberOf e))
+
+  by-judged : (j : Judged) → judged net held room ≡ j → judgedLeft j (length out) (endedLeft (stands net) true (length out) (last .ended) last) .result .answer ≡ Done → Ended
+  by-judged (Entries many) q e = by-ended many (sym q) (last .ended) refl e
+  by-judged (Refused a) q e = absurd (judged-refuses net held room (q ∙ ap Refused e))
+
+  ended-well : searchLeaves net held work out true limit .result .answer ≡ Done → Ended
+  unfolding searchLeaves
+  ended-well e = by-judged (judged net held room) refl e
+
+  leaves-record : (h : Ended) → searchLeaves net held work out true limit .out ≡ bytes ++ replicate (length out - length bytes) 0
+  unfolding searchLeaves
+  leaves-record h = rw (← h .passed, h .ended) (ap (λ (b : Bool). cond b whole (refusedLeft (length out) LongRecord) .out) (h .fits))
+    where
+      whole : Left
+      whole = record { result = finishedSearch (last .plan) (last .best) (last .count); out = bytes ++ replicate (length out - length bytes) 0 }
+
+  pub filed : (o : List ℕ) → length out < 2 ^ 64 → searchLeaves net held work out true limit .result .answer ≡ Done → o ≡ searchLeaves net held work out true limit .out → Filed net held (length work) o
+  unfolding searchOf
+  filed o few e there =
+      let h = ended-well e in
+      let p = judged-passed net held room (h .many) (h .passed) in
+      let ready = network-ready net held (p .network) in
+      let sound = scoped-sound (net .top) (net .vars) (net .functions) (net .sizes) (net .scopes) (ready .scoped) in
+      let c = costsOf (net .constant) held in
+      let answer = first-answer (stands net) sound c (p .network .constant) (p .network .top-some) (budget limit) (h .ended) in
+      let keeps = first-keeps (stands net) sound c (p .network .constant) (p .network .top-some) (budget limit) (h .ended) in
+      let words : List ℕ = recordWords (stands net) (last .best) (last .plan) (last .steps) in
+      let many : length words ≡ 8 + length (last .plan) + length (last .steps) * 5 = omega (arith, length-append (last .plan) (spell (last .steps)), spell-many (last .steps)) in
+      let long : length bytes ≡ length words * 8 = bytesOf-many words in
+      let fits = leb-true (length bytes) (length out) (h .fits) in
+      let small = words-small varsMost sizeMost functionsMost 3 (2 ^ 64) (stands net) c (scoped-within (net .top) (net .vars) (net .functions) (net .sizes) (net .scopes) (ready .scoped)) (omega arith) (omega arith) (omega arith) (omega (arith, p .network .top-most))
+      (last .plan) (last .best) (last .steps) answer keeps (omega arith) (omega (arith, many, long, fits, few)) in
+      let kept = kept-bytes (stands net) c words small (omega (arith, many)) (written-keeps (stands net) sound c (last .plan) (last .best) (last .steps) keeps answer) in
+      let behind : List ℕ = replicate (length out - length bytes) 0 in
+      let stands-there : o ≡ bytes ++ behind = there ∙ leaves-record h in
+      let six : wordAt o 6 ≡ 8 + length (last .plan) = ap (λ (l : List ℕ). wordAt l 6) stands-there ∙ front-word bytes behind 6 (omega (arith, many, long)) ∙ bytes-tell words small 6 in
+      let seven : wordAt o 7 ≡ length (last .steps) = ap (λ (l : List ℕ). wordAt l 7) stands-there ∙ front-word bytes behind 7 (omega (arith, many, long)) ∙ bytes-tell words small 7 in
+      record {
+        bytes = bytes;
+        behind = behind;
+        there = stands-there;
+        header = omega (arith, many, long);
+        size = omega (arith, six, seven, many, long);
+        accepted = kept-accepted net held (length work) bytes (record { network = p .network; held-whole = omega (arith, p .many-is, p .roomy); room-enough = omega (arith, p .many-is, p .roomy) }) kept;
+      }
+
+pub filed-after : (net : Network) (held work out work′ o : List ℕ) (limit : ℕ) (r : Searched) → length work′ ≡ length work → length out < 2 ^ 64
+    → _≡_ {A = Left} (record { result = r; out = o }) (searchLeaves net held work out true limit) → r .answer ≡ Done → Filed net held (length work′) o
+filed-after net held work out work′ o limit r l few e d =
+    subst (λ (m : ℕ). Filed net held m o) (sym l) (filed net held work out limit o few (sym (ap (λ (x : Left). x .result .answer) e) ∙ d) (ap (λ (x : Left). x .out) e))
+
+-- where such a record ends, and what the desk answers to it
+module _ (net : Network) (held : List ℕ) (room : ℕ) (out : List ℕ) (f : Filed net held room out) where
+  pub filed-inside : (headerWords * wordBytes ≤ length out) × (sizeTold out ≤ length out)
+  filed-inside = let e : length out ≡ length (f .bytes) + length (f .behind) = ap length (f .there) ∙ length-append (f .bytes) (f .behind) in (omega (arith, e, f .header), omega (arith, e, f .size))
+
+  pub filed-answer : (size : ℕ) (part : List ℕ) → size ≡ sizeTold out → part ≡ take (size - 0) (drop 0 out) → checked net held room part ≡ Done
+  filed-answer size part e p =
+      let q : part ≡ f .bytes = p ∙ ap (λ (l : List ℕ). take (size - 0) l) (f .there) ∙ take-at (f .bytes) (f .behind) (size - 0) (omega (arith, e, f .size)) in
+      ap (λ (l : List ℕ). checked net held room l) q ∙ f .accepted

@@ -1,0 +1,24 @@
+-- A record in the buffer that was lent for it.
+use Prim.Native.Nat.{ℕ, _+_, _*_, _≤_}
+use mathlib.Core.Path.{_≡_}
+use mathlib.Core.List.{List, _++_}
+use lib.ListN.{length}
+use Rattle.costs.specs.declared.networks.Network.{Network}
+use Rattle.costs.specs.declared.answers.Answer.the-variants.{Done}
+use Rattle.records.specs.Words.{wordBytes, wordAt}
+use Rattle.records.specs.Steps.{stepWords}
+use Rattle.records.specs.Records.{headerWords}
+use Rattle.desk.specs.Checking.{checked}
+
+-- the bytes of a record by its header: "the place of the first step" and "the count of steps"
+abbrev pub sizeTold : List ℕ → ℕ
+sizeTold out = (wordAt out 6 + wordAt out 7 * stepWords) * wordBytes
+
+-- a record that the desk accepts, lent so much working room, stands in the buffer, and its header tells where it ends
+pub record Filed (net : Network) (held : List ℕ) (room : ℕ) (out : List ℕ) : Type 0 where
+  pub bytes : List ℕ
+  pub behind : List ℕ
+  pub there : out ≡ bytes ++ behind
+  pub header : headerWords * wordBytes ≤ length bytes
+  pub size : sizeTold out ≡ length bytes
+  pub accepted : checked net held room bytes ≡ Done
