@@ -1,0 +1,5 @@
+pub mod TextLimits
+pub mod Tokens
+pub mod Steps
+pub mod Numbers
+pub mod Words

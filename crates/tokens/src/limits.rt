@@ -1,0 +1,6 @@
+// The limits of a token, as the code has them; specs/TextLimits.antt has them for the promises.
+
+// A number has at most this many digits.
+pub const DIGITS: usize = 13;
+// A name has at most this many bytes.
+pub const NAME: usize = 64;
