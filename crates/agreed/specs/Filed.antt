@@ -10,7 +10,7 @@ use Rattle.records.specs.Steps.{stepWords}
 use Rattle.records.specs.Records.{headerWords}
 use Rattle.desk.specs.Checking.{checked}
 
--- the bytes of a record by its header: "the place of the first step" and "the count of steps"
+-- the bytes of a record by its header: "offset of the steps, 8 + count; number of steps. Offsets count words."
 abbrev pub sizeTold : List ℕ → ℕ
 sizeTold out = (wordAt out 6 + wordAt out 7 * stepWords) * wordBytes
 
