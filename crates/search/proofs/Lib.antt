@@ -13,3 +13,4 @@ pub mod PrefixNodes
 pub mod VisitLaws
 pub mod ResultLaws
 pub mod SearchDoorLaws
+pub mod SearchIsRight
