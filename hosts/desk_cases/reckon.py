@@ -1,4 +1,4 @@
-# independent reckoning of document 01's rules for a record (words and places), from scratch
+# The rules of a record and the place of a refusal, reckoned from document 01 alone: `python3 reckon.py` prints what crates/desk_cases/stdout holds.
 import itertools,struct
 class Net:
     def __init__(s,k,const,sizes,funcs,table):   # funcs: list of scopes; table: list; layout per document 01
@@ -116,6 +116,13 @@ def search(net):
 def by(W): return b''.join(struct.pack('<Q',x) for x in W)
 A=Net(10,1,[2,2,2],[(0,1),(1,2)],[0,3,0,0,0,0,5,0,0,5,0,0,4,0])
 B=Net(9,0,[2],[],[4,6]); C=Net(5,0,[1],[],[5])
+# what crates/desk_cases prints: B's and C's records whole, with each word all ones, with each byte turned over
 if __name__=='__main__':
-    for net in (A,B,C):
-        W,nd=search(net); print(len(W),nd,W,check(net,by(W)))
+    for net in (B,C):
+        whole=by(search(net)[0])
+        tries=[whole]
+        for w in range(len(whole)//8): tries.append(whole[:w*8]+b'\xff'*8+whole[w*8+8:])
+        for j in range(len(whole)): tries.append(whole[:j]+bytes([255-whole[j]])+whole[j+1:])
+        for bytes_ in tries:
+            number,place=check(net,bytes_)
+            print(number,place,0,0)
