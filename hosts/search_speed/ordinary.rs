@@ -1,6 +1,6 @@
 // The ordinary Rust search that the proved one is measured against: the same pass, order and budget, written as one would write it
-// without proofs, on the same representation of a network. To measure: `rustc -O ordinary.rs`, then time it beside target/bin/search_speed, on an idle
-// machine and several times; the lines that both print are the same, and the nodes are their second numbers.
+// without proofs, on the same representation of a network. `compare.sh` beside it times both; the lines that both print are the same, and
+// the nodes are their second numbers.
 pub struct Network {
     pub top: u64,
     pub constant: u64,
