@@ -96,7 +96,7 @@ def every_call(text):
     yield frame("search", text, done.nodes - 1, 1, room - 1)
     yield check_frame(text, words)
     for which in (0, 1):
-        for f in list(range(net.functions + 1)) + [65535]:
+        for f in list(range(net.functions + 1)) + [65535, GREATEST]:
             yield frame("show", text, which, f)
 
 
@@ -313,11 +313,11 @@ def spoils(text):
         yield e, e, 1, 0, value
     for value in (0, k - 1, k, k + 1, GREATEST):
         yield e, e, 2, 0, value
-    for value in (0, n - 1, n + 1, 64, 65, 255):
+    for value in (0, n - 1, n + 1, 64, 65, 255, 256, GREATEST):
         yield e, e, 3, 0, value
     for place, value in ((0, 0), (0, 1), (0, 3), (n - 1, 0), (n - 1, 16), (n - 1, 17), (1, 255), (n, 5), (63, 255)):
         yield e, e, 4, place, value
-    for value in (0, f - 1, f + 1, 256, 257, 65535):
+    for value in (0, f - 1, f + 1, 256, 257, 65535, GREATEST):
         yield e, e, 5, 0, value
     for place, value in ((0, 0), (0, 1), (0, 2), (0, 3), (0, 4), (f - 1, 2), (f - 1, 3), (f - 1, 255), (f, 7), (255, 1)):
         yield e + 8, e + 8, 6, place, value
@@ -326,7 +326,7 @@ def spoils(text):
         yield e, e, 7, place, value
     start = net.start[f - 1]
     for place, value in ((0, net.start[0] + 1), (0, 0), (f - 1, start - 1), (f - 1, start + 1), (f - 1, 65535), (f, 3),
-                         (255, 65535)):
+                         (0, GREATEST), (f - 1, GREATEST), (255, GREATEST)):
         yield e, e, 8, place, value
     for place, value in ((0, k), (0, k + 1), (e - 1, k), (e - 1, k + 1), (e - 1, GREATEST), (e, GREATEST), (start, 0),
                          (start, k)):
@@ -773,7 +773,6 @@ BAD = [
     ("variable 256", b"shift 25 2 0 256 0 1\n" + B + b"\n"),
     ("value 256", b"shift 25 3 0 0 256 1\n" + B + b"\n"),
     ("which 2", b"show 25 2 0\n" + B + b"\n"),
-    ("shown function 65,536", b"show 25 0 65536\n" + B + b"\n"),
     ("lend with a text", b"lend 1 2 2 0 0 0\nx\n"),
     ("lend without its second LF", b"lend 0 2 2 0 0 0\nprice 25 1 0\n" + B + b"\n"),
     ("lend of 5,001 entries", b"lend 0 5001 2 0 0 0\n\n"),
@@ -785,9 +784,7 @@ BAD = [
     ("start of function 256", b"lend 0 2 2 8 256 0\n\n"),
     ("a held entry past the table", b"lend 0 2 3 9 2 0\n\n"),
     ("a worked entry past the table", b"lend 0 3 2 10 2 0\n\n"),
-    ("N of 256", b"lend 0 2 2 3 0 256\n\n"),
     ("a size of 256", b"lend 0 2 2 4 0 256\n\n"),
-    ("65,536 functions", b"lend 0 2 2 5 0 65536\n\n"),
     ("a lend before the bad frame", frame("lend", b"", 2, 2, 0, 0, 0) + b"price 25 x\n" + B + b"\n"),
 ]
 

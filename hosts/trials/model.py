@@ -15,12 +15,12 @@ WHAT IT DECIDES WHERE THE DESCRIPTION OF THE FRAMES IS SILENT
  3. The number of words fits the call (the call's own word counted): read 3, price 3 to 67, shift 7 to 71, pass 2 to 66,
     search 5, check 3, show 4, lend 7.
  4. Limits, each a bad frame when passed: T 70,000; R and room 400,000; L, H and W 5,000; choices and node words 255; kind 2 to
-    4; f 65,535, in `show` as in `shift`; i and a 255; asked and which 0 or 1. n, m, budget are any number.
+    4; the f of a `shift` 65,535; i and a 255; asked and which 0 or 1. n, m, budget and the f of a `show` are any number.
  5. A `shift` of kind 4 whose f or a is not 0 is a bad frame.
  6. `lend`: T is 0 (so the payload is empty, and its LF follows the header's). Field is 0 to 10. The place is below 64 for
-    field 4, 256 for 6 and 8, 768 for 7 (3 x function + position), H for 9, W for 10. The value is at most 255 for fields 3, 4,
-    6 and 7, at most 65,535 for 5 and 8, any number for the others. A place or value that the field has no use for is any
-    number. Whatever else is a bad frame.
+    field 4, 256 for 6 and 8, 768 for 7 (3 x function + position), H for 9, W for 10. The value is at most 255 for fields 4, 6
+    and 7, which are bytes, and any number for the others. A place or value that the field has no use for is any number.
+    Whatever else is a bad frame.
  7. The payload is followed by one LF, the last frame's too; another byte there, or the end, is a bad frame. The lines of the
     frames before a bad one have been written. Nothing after it is looked at. The model's exit status is 0 then too.
  8. A line's words are separated by one space also where a buffer or a list is empty: `part`, `cost 3 plan nodes 1 work record`.
@@ -502,7 +502,7 @@ HEADERS = {
     b"pass": ([], BYTE),
     b"search": ([ANY, BIT, MAX_R], None),
     b"check": ([MAX_R], None),
-    b"show": ([BIT, WORD], None),
+    b"show": ([BIT, ANY], None),
     b"lend": ([MAX_TABLE, MAX_TABLE, 10, ANY, ANY], None),
 }
 
@@ -533,7 +533,7 @@ def header_of(header):
     if call == b"lend":
         H, W, field, place, value = numbers
         need(place < {4: MAX_N, 6: MAX_FUNCTIONS, 7: 3 * MAX_FUNCTIONS, 8: MAX_FUNCTIONS, 9: H, 10: W}.get(field, ANY + 1))
-        need(value <= {3: BYTE, 4: BYTE, 5: WORD, 6: BYTE, 7: BYTE, 8: WORD}.get(field, ANY))
+        need(value <= {4: BYTE, 6: BYTE, 7: BYTE}.get(field, ANY))
     return call, length, numbers
 
 
