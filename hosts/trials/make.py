@@ -403,6 +403,13 @@ def each_word(text, values):
             yield check_frame(text, words[:at] + [value] + words[at + 1:])
 
 
+def each_byte(text):
+    done, words = own_record(text)
+    whole = model.to_bytes(words)
+    for at, byte in enumerate(whole):
+        yield check_frame(text, whole[:at] + bytes([255 - byte]) + whole[at + 1:])
+
+
 def step_changes(text, dice):
     """Steps swapped, dropped, doubled and cut off, the header following."""
     net, costs = model.read(text)
@@ -488,6 +495,8 @@ def records(dice):
     widely = by_one + (lambda word: 0, lambda word: 2, lambda word: 5, lambda word: GREATEST, lambda word: word + 2 ** 32)
     yield from each_word(B, widely)
     yield from each_word(C, by_one + widely[-3:])
+    yield from each_byte(B)
+    yield from each_byte(C)
     yield from each_word(EMPTY, by_one + widely[-3:])
     yield from each_word(TWO, by_one)
     yield from each_word(HARD, by_one[:1])
