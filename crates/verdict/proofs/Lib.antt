@@ -1,0 +1,3 @@
+mod NumeralLaws
+mod LineLaws
+mod VerdictLaws
