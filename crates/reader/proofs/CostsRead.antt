@@ -12,11 +12,12 @@ use Rattle.costs.specs.Net.{All}
 use Rattle.tokens.specs.Tokens.{Text}
 use Rattle.tokens.specs.Steps.{got}
 use Rattle.tokens.proofs.StepLaws.{and-then, same-value}
-use Rattle.reader.specs.Scopes.{product}
-use Rattle.reader.specs.Listed.{unlisted, listing, settled, listed}
-use Rattle.reader.specs.Soft.{gapCost, softCost, tabulate, softCosts}
-use Rattle.reader.specs.Functions.{marked, costs, sums}
-use Rattle.reader.specs.declared.soft.Soft.{Soft}
+use Rattle.function_costs.specs.Sizes.{product}
+use Rattle.function_costs.specs.Listed.{unlisted, listing, settled, listed}
+use Rattle.function_costs.specs.Soft.{gapCost, softCost, tabulate, softCosts}
+use Rattle.function_costs.specs.FunctionCosts.{marked, costs}
+use Rattle.functions.specs.Functions.{sums}
+use Rattle.function_costs.specs.declared.soft.Soft.{Soft}
 
 -- each cost of a list is at most k
 abbrev pub Capped : ℕ → List ℕ → Type 0

@@ -1,10 +1,4 @@
-pub mod MapLaws
 pub mod DomainLaws
-pub mod ScopeLaws
-pub mod ListedLaws
-pub mod SoftLaws
-pub mod StretchLaws
-pub mod FunctionLaws
 pub mod HeaderLaws
 pub mod ReadingLaws
 pub mod AlikeTexts

@@ -24,16 +24,19 @@ use Rattle.tokens.specs.Tokens.{Text, textOf}
 use Rattle.tokens.specs.Steps.{Got, got, refused}
 use Rattle.tokens.proofs.StepLaws.{and-then, same-value}
 use Rattle.tokens.proofs.NumberLaws.{in-range}
-use Rattle.reader.specs.ReaderLimits.{arityMost, textMost}
+use Rattle.function_costs.specs.FunctionLimits.{arityMost}
+use Rattle.reader.specs.ReaderLimits.{textMost}
 use Rattle.reader.specs.Domains.{Sized}
-use Rattle.reader.specs.Scopes.{sizesOf, product}
-use Rattle.reader.specs.Functions.{Draft, costs, sums, unaryStart, addedAt, withFunction, rowSet, put, placed, function, functions}
+use Rattle.functions.specs.Scopes.{sizesOf}
+use Rattle.function_costs.specs.Sizes.{product}
+use Rattle.functions.specs.Functions.{Draft, sums, unaryStart, addedAt, withFunction, rowSet, put, placed, function, functions}
+use Rattle.function_costs.specs.FunctionCosts.{costs}
 use Rattle.reader.specs.Reading.{started, body, network, fitted, reading, tableAfter}
 use Rattle.reader.specs.declared.headers.Head.{Head}
 use Rattle.reader.proofs.HeaderLaws.{InRange, header-range}
 use Rattle.reader.proofs.DomainLaws.{Good, domains-good, none-good, total-most}
-use Rattle.reader.proofs.ScopeLaws.{scope-known}
-use Rattle.reader.proofs.StretchLaws.{sums-length}
+use Rattle.functions.proofs.ScopeLaws.{scope-known}
+use Rattle.functions.proofs.StretchLaws.{sums-length}
 use Rattle.reader.proofs.CostsRead.{Capped, Costed, costs-costed, capped-sums, all-append, all-take, all-drop, all-at, all-replicate}
 
 -- ---- rows

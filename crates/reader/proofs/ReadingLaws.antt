@@ -13,7 +13,7 @@ use Rattle.tokens.specs.declared.words.Pos.{Pos}
 use Rattle.tokens.specs.declared.words.Pos.the-variants as P
 use Rattle.reader.specs.Headers.{header, headerIs}
 use Rattle.reader.specs.Domains.{domains, domainsIs}
-use Rattle.reader.specs.Functions.{Draft, functions, draftOf, stepIs}
+use Rattle.functions.specs.Functions.{Draft, functions, draftOf, stepIs}
 use Rattle.reader.specs.Reading.{started, body, network}
 use Rattle.reader.specs.declared.headers.Head.{Head}
 use Rattle.reader.specs.declared.headers.Header.{Header}
@@ -21,9 +21,9 @@ use Rattle.reader.specs.declared.headers.Header.the-variants as H
 use Rattle.reader.specs.declared.domains.Unary.{Unary}
 use Rattle.reader.specs.declared.domains.Domains.{Domains}
 use Rattle.reader.specs.declared.domains.Domains.the-variants as D
-use Rattle.reader.specs.declared.functions.State.{State}
-use Rattle.reader.specs.declared.functions.Step.{Step}
-use Rattle.reader.specs.declared.functions.Step.the-variants as S
+use Rattle.functions.specs.declared.functions.State.{State}
+use Rattle.functions.specs.declared.functions.Step.{Step}
+use Rattle.functions.specs.declared.functions.Step.the-variants as S
 
 pub take-replicate : (m n : ℕ) → m ≤ n → take {A = ℕ} m (replicate n 0) ≡ replicate m 0
 take-replicate zero n h = refl

@@ -10,10 +10,12 @@ use Rattle.tokens.specs.Numbers.{digits, valueOf, numeral, number}
 use Rattle.tokens.specs.Words.{name, same, placeAmong, word, follows, finish}
 use Rattle.reader.specs.Headers.{header}
 use Rattle.reader.specs.Domains.{size, domains}
-use Rattle.reader.specs.Scopes.{product, variable, scope}
-use Rattle.reader.specs.Listed.{value, tuple, listing, settled, listed}
-use Rattle.reader.specs.Soft.{softSum, gapBelow, gap, gapCost, valuesAt, total, softCost, tabulate, softCosts}
-use Rattle.reader.specs.Functions.{Draft, marked, costs, sums, function, functions}
+use Rattle.function_costs.specs.Sizes.{product}
+use Rattle.functions.specs.Scopes.{variable, scope}
+use Rattle.function_costs.specs.Listed.{value, tuple, listing, settled, listed}
+use Rattle.function_costs.specs.Soft.{softSum, gapBelow, gap, gapCost, valuesAt, total, softCost, tabulate, softCosts}
+use Rattle.functions.specs.Functions.{Draft, sums, function, functions}
+use Rattle.function_costs.specs.FunctionCosts.{marked, costs}
 use Rattle.reader.specs.Reading.{body, network, reading}
 
 -- what is looked at: k, the constant, N and the number of functions; three sizes; two rows; two starts; the table

@@ -1,9 +1,5 @@
 pub mod ReaderLimits
 pub mod Headers
 pub mod Domains
-pub mod Scopes
-pub mod Listed
-pub mod Soft
-pub mod Functions
 pub mod Reading
 pub mod Examples

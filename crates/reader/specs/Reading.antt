@@ -13,7 +13,7 @@ use Rattle.tokens.specs.Words.{finish}
 use Rattle.reader.specs.ReaderLimits.{textMost}
 use Rattle.reader.specs.Headers.{header}
 use Rattle.reader.specs.Domains.{Sized, domains}
-use Rattle.reader.specs.Functions.{Draft, functions}
+use Rattle.functions.specs.Functions.{Draft, functions}
 use Rattle.reader.specs.declared.headers.Head.{Head}
 use Rattle.reader.specs.declared.reading.Reading.{Reading}
 

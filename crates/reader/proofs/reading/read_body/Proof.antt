@@ -1,11 +1,11 @@
 use Rattle.reader.specs.declared.domains.Unary.{Unary}
 use Rattle.reader.specs.declared.headers.Head.{Head}
-use Rattle.reader.proofs.FunctionLaws.{counted-in}
+use Rattle.functions.proofs.FunctionLaws.{counted-in}
 use Rattle.reader.proofs.ReadingLaws.{take-replicate, body-domains, body-functions, body-after, body-done}
 use Rattle.reader.proofs.DomainLaws.{Good, domains-good, none-good, total-most}
 use Rattle.reader.specs.declared.domains.Domains.{Domains}
 use Rattle.reader.specs.Reading.{started}
-use Rattle.reader.specs.Functions.{Draft, draftOf}
+use Rattle.functions.specs.Functions.{Draft, draftOf}
 use Rattle.reader.specs.Domains.{domainsIs}
 use Rattle.costs.specs.Limits.{varsMost, functionsMost, entriesMost}
 use borrow.Author.Tests.{le-leb, lt-leb}

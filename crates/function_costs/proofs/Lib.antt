@@ -1,0 +1,5 @@
+pub mod MapLaws
+pub mod SizeLaws
+mod ListedLaws
+mod SoftLaws
+mod FunctionCostLaws
