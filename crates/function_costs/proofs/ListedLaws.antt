@@ -1,11 +1,11 @@
 -- Laws of listed costs, one turn at a time. Assumes nothing.
 use Prim.Native.Nat.{ℕ, suc, _+_, _-_, _*_, _^_, _≤_, _<_, min}
-use mathlib.Core.Path.{_≡_}
+use mathlib.Core.Path.{_≡_, _∙_}
 use mathlib.Core.List.{List, map}
 use native.Mathlib.Numerals.{add-one}
 use native.Mathlib.Nat.{suc-mul}
 use native.Mathlib.Omega.{arith}
-use lib.ListN.{length, getD, drop, set, replicate, length-drop, drop-of-length-le}
+use lib.ListN.{length, getD, drop, set, replicate, length-set, length-drop, drop-of-length-le}
 use lib.Seq.{drop-cons}
 use Rattle.costs.specs.Limits.{sizeMost, entriesMost}
 use Rattle.costs.specs.declared.answers.Answer.{Answer}
@@ -53,9 +53,14 @@ module _ (top : ℕ) (ds : List ℕ) (left m : ℕ) (cells : List ℕ) (text : T
     unfolding listing andThen demand
     listing-cost answer k = rw (e, ← h, f, ← g, k)
 
-    pub listing-more : (y : Seen) → q ≡ Is y → listing top ds left cells text at ≡ listing top ds m (set cells (x .index) (min top (y .value))) text (y .next)
+    pub listing-more : (y : Seen) (c : ℕ) (out : List ℕ) → q ≡ Is y → c ≡ min top (y .value) → out ≡ set cells (x .index) c
+        → listing top ds left cells text at ≡ listing top ds m out text (y .next)
     unfolding listing andThen demand
-    listing-more y k = rw (e, ← h, f, ← g, k)
+    listing-more y c out k d o = rw (e, ← h, f, ← g, k, o, d)
+
+-- a store keeps the length
+pub store-length : (cells out : List ℕ) (i c n : ℕ) → out ≡ set cells i c → length cells ≡ n → length out ≡ n
+store-length cells out i c n e l = rw e (length-set cells i c ∙ l)
 
 pub listing-end : (top : ℕ) (ds : List ℕ) (left : ℕ) (cells : List ℕ) (text : Text) (at : ℕ) → left ≡ 0 → listing top ds left cells text at ≡ got cells at
 unfolding listing andThen demand
@@ -83,14 +88,15 @@ module _ (top : ℕ) (ds : List ℕ) (most : ℕ) (text : Text) (at : ℕ) (r : 
       listed-done next default out z d o = rw (← h, f, ← g, k, ← b, ← l, z, o, d)
 
 -- a value that was read is below its size
-pub value-below : (cells : List ℕ) (d left before : ℕ) (text : Text) (at : ℕ) (a : Seen) (next : ℕ) → got a next ≡ value cells d left before text at → a .value < d
+pub value-below : (cells : List ℕ) (d left before : ℕ) (text : Text) (at : ℕ) (r : Num) → numIs r ≡ value cells d left before text at → (a : Seen) → r ≡ Is a → a .value < d
 unfolding value
-value-below cells d left before text at a next e =
+value-below cells d left before text at r h a f =
+    let e : got a (a .next) ≡ value cells d left before text at = rw (← h, f) in
     let s = and-then _ _ _ _ e in
     let p = demanded _ _ _ _ _ _ _ (s .3) in
     let q = demanded _ _ _ _ _ _ _ (p .1) in
-    let r : a ≡ s .0 = same-value _ _ _ _ (q .1) in
-    rw r (by-ltb (s .0 .value) d .says (so (p .0)))
+    let o : a ≡ s .0 = same-value _ _ _ _ (q .1) in
+    rw o (by-ltb (s .0 .value) d .says (so (p .0)))
 
 -- an entry of at most three values has room for the next
 pub index-room : (index d j : ℕ) → j ≤ 2 → d ≤ sizeMost → index < sizeMost ^ j → index * d + d ≤ entriesMost

@@ -119,9 +119,10 @@ module _ (d : Draft) (text : Text) (at : ℕ) (r : Num) (h : numIs r ≡ number 
     unfolding function andThen
     function-placed next k = rw (← h, f, e, ← g, k)
 
-pub placed-same : (d : Draft) (xs ys ds es : List ℕ) (text : Text) (at : ℕ) → xs ≡ ys → ds ≡ es
-    → placed d xs (costs (d .net .top) ds text at) ≡ placed d ys (costs (d .net .top) es text at)
-placed-same d xs ys ds es text at e f = rw (e, f)
+-- what puts the costs of a function's scope has read the function
+pub function-is : (d : Draft) (xs ys ds : List ℕ) (text : Text) (at next : ℕ) (g : Got Draft) → g ≡ placed d ys (costs (d .net .top) ds text next) → ys ≡ xs → ds ≡ sizesOf (d .net .sizes) xs
+    → function d text at ≡ placed d xs (costs (d .net .top) (sizesOf (d .net .sizes) xs) text next) → g ≡ function d text at
+function-is d xs ys ds text at next g h e f w = rw (h, e, f) (sym w)
 
 pub take-one : (l : List ℕ) → 1 ≤ length l → take 1 l ≡ getD l 0 0 ∷ []
 take-one [] h = absurd (omega arith)

@@ -1,12 +1,11 @@
 use Rattle.function_costs.proofs.ListedLaws.{tuple-end, tuple-stop, tuple-more, value-below, index-room}
 use Rattle.function_costs.specs.Listed.{tuple}
-use Rattle.tokens.specs.Numbers.{numIs}
 use Rattle.tokens.specs.Tokens.{textOf}
 use Rattle.costs.proofs.RowLaws.{digit-more}
 use Rattle.costs.specs.Limits.{sizeMost}
 use lib.ListN.{length, drop}
 use native.Mathlib.Omega.{arith}
-use mathlib.Core.Path.{_≡_, refl, sym, _∙_, ap}
+use mathlib.Core.Path.{_≡_, refl, sym, _∙_}
 use Prim.Native.Nat.{_-_, _^_, _≤_, _<_}
 use borrow.Author.Needs.{needs}
 use Rattle.function_costs.proofs.listed.read_tuple.Statement.{statement}
@@ -61,7 +60,7 @@ add-index c =
     omega (
       arith,
       index-room (l .loop .index) _ (l .loop .j) (omega arith) (c .before .before .before .before .before .before .before .before .before .before .before .pre .most (l .loop .j)) (l .loop .inv .1),
-      value-below _ _ _ _ _ _ _ _ (ap numIs (sym (c .before .before .a .given .1)) ∙ c .before .before .before .before .read-value .ensures),
+      value-below _ _ _ _ _ _ _ (c .before .before .before .before .read-value .ensures) _ (c .before .before .a .given .1),
     )
 
 loop-less : tie.Need-loop-less Inv-loop μ-loop
@@ -71,7 +70,7 @@ loop-again : tie.Need-loop-again Inv-loop μ-loop
 loop-again c =
     let l = c .before .before .before .before .before .before .before in (
       omega arith,
-      digit-more sizeMost (l .loop .j) (l .loop .index) _ _ (l .loop .inv .1) (c .before .before .before .before .before .before .before .before .before .before .before .pre .most (l .loop .j)) (value-below _ _ _ _ _ _ _ _ (ap numIs (sym (c .before .before .a .given .1)) ∙ c .before .before .before .before .read-value .ensures)),
+      digit-more sizeMost (l .loop .j) (l .loop .index) _ _ (l .loop .inv .1) (c .before .before .before .before .before .before .before .before .before .before .before .pre .most (l .loop .j)) (value-below _ _ _ _ _ _ _ (c .before .before .before .before .read-value .ensures) _ (c .before .before .a .given .1)),
       l .loop .inv .2 ∙ tuple-more _ _ (l .loop .j) _ _ _ (omega arith) _ (c .before .before .before .before .read-value .ensures) _ (c .before .before .a .given .1),
     )
 

@@ -1,9 +1,9 @@
-use Rattle.function_costs.proofs.ListedLaws.{listing-stop, listing-cost, listing-more, listing-end}
+use Rattle.function_costs.proofs.ListedLaws.{listing-stop, listing-cost, listing-more, listing-end, store-length}
 use Rattle.function_costs.specs.Listed.{listing}
 use Rattle.tokens.specs.Tokens.{textOf}
-use lib.ListN.{length, length-set}
+use lib.ListN.{length}
 use native.Mathlib.Omega.{arith}
-use mathlib.Core.Path.{_≡_, refl, sym, _∙_, ap}
+use mathlib.Core.Path.{_≡_, refl, sym, _∙_}
 use Prim.Native.Nat.{_-_}
 use borrow.Author.Needs.{needs}
 use Rattle.function_costs.proofs.listed.read_tuples.Statement.{statement}
@@ -68,10 +68,9 @@ loop-less c = omega arith
 loop-again : tie.Need-loop-again Inv-loop μ-loop
 loop-again c =
     let l = c .before .before .before .before .before .before .before .before .before .before .before .before .before .before .before in (
-      ap length (c .before .before .put-cell .ensures) ∙ simp length-set (l .loop .inv .0),
+      store-length (l .loop .cells) _ _ _ _ (c .before .before .put-cell .ensures) (l .loop .inv .0),
       l .loop .inv .1
-          ∙ listing-more _ _ (l .loop .left) (l .loop .left - 1) _ _ _ (omega arith) _ (c .before .before .before .before .before .before .before .before .before .before .before .before .read-tuple .ensures) _ (c .before .before .before .before .before .before .before .before .before .before .entry .given .1) _ (c .before .before .before .before .before .before .before .before .any-number .ensures) _ (c .before .before .before .before .before .before .x .given .1)
-          ∙ cc (c .before .before .before .smaller .ensures, c .before .before .put-cell .ensures),
+          ∙ listing-more _ _ (l .loop .left) (l .loop .left - 1) _ _ _ (omega arith) _ (c .before .before .before .before .before .before .before .before .before .before .before .before .read-tuple .ensures) _ (c .before .before .before .before .before .before .before .before .before .before .entry .given .1) _ (c .before .before .before .before .before .before .before .before .any-number .ensures) _ _ _ (c .before .before .before .before .before .before .x .given .1) (c .before .before .before .smaller .ensures) (c .before .before .put-cell .ensures),
     )
 
 same-length-3 : tie.Need-same-length-3 Inv-loop μ-loop

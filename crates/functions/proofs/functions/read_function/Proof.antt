@@ -1,4 +1,4 @@
-use Rattle.functions.proofs.FunctionLaws.{function-arity, function-scope, function-placed, placed-same, take-one, two-or-more}
+use Rattle.functions.proofs.FunctionLaws.{function-arity, function-scope, function-placed, function-is, take-one, two-or-more}
 use Rattle.functions.proofs.ScopeLaws.{Known, scope-known, small-scope}
 use Rattle.functions.specs.Functions.{Draft, placed, function, draftOf}
 use Rattle.function_costs.specs.FunctionCosts.{costs}
@@ -115,7 +115,7 @@ returns-3 c =
     let a = c .before .before .before .before .before .before .before .before .before .before .before .before .before .before .before .before .before .before .before .before .before .args in
     let e : [] ≡ scopeOf p = rw (c .before .before .before .if1 .taken) in
     let r = c .read-constant .ensures in
-    (r .0 (a .vars) (a .sizes .now) (a .scopes .now) (a .starts .now) (a .work .now) ∙ placed-same (draft (c .before .before .before .before .before .before .before .before .before .before .before .before .before .before .before .before .before .before .before .before .before)) _ _ _ _ _ _ e (sized p) ∙ sym (whole p), r .1)
+    (function-is (draft (c .before .before .before .before .before .before .before .before .before .before .before .before .before .before .before .before .before .before .before .before .before)) (scopeOf p) [] _ _ _ _ _ (r .0 (a .vars) (a .sizes .now) (a .scopes .now) (a .starts .now) (a .work .now)) e (sized p) (whole p), r .1)
 
 slice-aggregate-byte-in : tie.Need-slice-aggregate-byte-in
 slice-aggregate-byte-in c = search needs
@@ -147,7 +147,7 @@ returns-4 c =
     let a = c .before .before .before .before .before .before .before .before .before .before .before .before .before .before .before .before .before .before .before .before .before .before .before .before .before .before .before .args in
     let u = single p (c .before .before .before .before .before .before .byte-in .result) (c .before .before .before .before .before .before .before .before .if2 .taken) (c .before .before .before .before .before .before .byte-in .ensures) in
     let r = c .before .before .read-unary .ensures in
-    (r .0 (a .scopes .now) (a .starts .now) ∙ placed-same (draft (c .before .before .before .before .before .before .before .before .before .before .before .before .before .before .before .before .before .before .before .before .before .before .before .before .before .before .before)) _ _ _ _ _ _ (sym u) (sized p) ∙ sym (whole p), r .1)
+    (function-is (draft (c .before .before .before .before .before .before .before .before .before .before .before .before .before .before .before .before .before .before .before .before .before .before .before .before .before .before .before)) (scopeOf p) _ _ _ _ _ _ (r .0 (a .scopes .now) (a .starts .now)) (sym u) (sized p) (whole p), r .1)
 
 sub-read-numbered : tie.Need-sub-read-numbered
 sub-read-numbered c = search needs
@@ -175,7 +175,7 @@ returns-5 c =
     let p = c .before .before .before .before .before .before .before .before .before .before .before in
     let a = c .before .before .before .before .before .before .before .before .before .before .before .before .before .before .before .before .before .before .before .before .before .before .before .before .before .before .before .before .args in
     let r = c .before .before .read-numbered .ensures in
-    (r .0 (a .vars) (a .sizes .now) ∙ placed-same (draft (c .before .before .before .before .before .before .before .before .before .before .before .before .before .before .before .before .before .before .before .before .before .before .before .before .before .before .before .before)) _ _ _ _ _ _ refl (sized p) ∙ sym (whole p), r .1)
+    (function-is (draft (c .before .before .before .before .before .before .before .before .before .before .before .before .before .before .before .before .before .before .before .before .before .before .before .before .before .before .before .before)) (scopeOf p) (scopeOf p) _ _ _ _ _ (r .0 (a .vars) (a .sizes .now)) refl (sized p) (whole p), r .1)
 
 pub read-function-spec : {M : Type 1} → statement M
 read-function-spec =
