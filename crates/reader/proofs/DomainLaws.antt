@@ -18,7 +18,10 @@ use Rattle.tokens.specs.declared.numbers.Num.{Num}
 use Rattle.tokens.specs.declared.numbers.Num.the-variants.{Is, No}
 use Rattle.tokens.proofs.StepLaws.{and-then, demanded, same-value}
 use Rattle.tokens.proofs.NumberLaws.{in-range}
-use Rattle.reader.specs.Domains.{Sized, size, domains}
+use Rattle.reader.specs.Domains.{Sized, size, domains, domainsIs}
+use Rattle.reader.specs.declared.domains.Unary.{Unary}
+use Rattle.reader.specs.declared.domains.Domains.{Domains}
+use Rattle.reader.specs.declared.domains.Domains.the-variants as D
 
 module _ (greatest left m v largest entries : ℕ) (sizes : List ℕ) (text : Text) (at : ℕ) (e : left ≡ suc m) (r : Num)
     (h : numIs r ≡ size greatest m largest entries text at) where
@@ -26,10 +29,10 @@ module _ (greatest left m v largest entries : ℕ) (sizes : List ℕ) (text : Te
   unfolding domains andThen demand
   domains-stop answer f = rw (e, ← h, f)
 
-  pub domains-more : (d : Seen) → r ≡ Is d
-      → domains greatest left v largest entries sizes text at ≡ domains greatest m (v + 1) (max largest (d .value)) (entries + d .value) (set sizes v (d .value)) text (d .next)
+  pub domains-more : (d : Seen) (now : ℕ) → r ≡ Is d → now ≡ max largest (d .value)
+      → domains greatest left v largest entries sizes text at ≡ domains greatest m (v + 1) now (entries + d .value) (set sizes v (d .value)) text (d .next)
   unfolding domains andThen demand
-  domains-more d f = rw (e, ← h, f)
+  domains-more d now f n = rw (e, ← h, f, n)
 
 pub domains-end : (greatest left v largest entries : ℕ) (sizes : List ℕ) (text : Text) (at : ℕ) → left ≡ 0
     → domains greatest left v largest entries sizes text at ≡ got (record { entries = entries; sizes = sizes }) at
@@ -46,6 +49,12 @@ size-range greatest left largest entries text at d next e =
     let q = demanded _ _ _ _ _ _ _ (p .1) in
     let r : d ≡ s .0 = same-value _ _ _ _ (q .1) in
     rw r (in-range _ _ _ _ _ _ (sym (s .2)))
+
+pub size-read : (greatest left largest entries : ℕ) (text : Text) (at : ℕ) (r : Num) → numIs r ≡ size greatest left largest entries text at → (d : Seen) → r ≡ Is d
+    → (1 ≤ d .value) × (d .value ≤ sizeMost)
+size-read greatest left largest entries text at r h d f =
+    let e : got d (d .next) ≡ size greatest left largest entries text at = rw (← h, f) in
+    size-range greatest left largest entries text at d (d .next) e
 
 -- sizes that were read, so many of them
 pub record Good (v : ℕ) (z : Sized) : Type 0 where
@@ -94,6 +103,15 @@ none-good = record { long = refl; some = λ w l. absurd (omega arith); most = ze
     zeros zero w = omega arith
     zeros (suc n) zero = omega arith
     zeros (suc n) (suc w) = zeros n w
+
+-- all of them
+pub domains-read : (greatest vars : ℕ) (text : Text) (at : ℕ) (r : Domains) (sizes : List ℕ) → domainsIs r sizes ≡ domains greatest vars 0 0 0 (replicate varsMost 0) text at
+    → vars ≤ varsMost → (unary : Unary) → r ≡ D.Is unary → Good vars (record { entries = unary .entries; sizes = sizes })
+domains-read greatest vars text at r sizes h l unary f =
+    let e : got (record { entries = unary .entries; sizes = sizes }) (unary .next) ≡ domains greatest vars 0 0 0 (replicate varsMost 0) text at = rw (← h, f) in
+    let n : 0 + vars ≡ vars = omega arith in
+    let g = domains-good greatest vars 0 0 0 (replicate varsMost 0) text at _ _ e (omega arith) none-good in
+    rw n at g
 
 -- few sizes have a small total
 pub total-most : (n : ℕ) (g : ℕ → ℕ) → ((w : ℕ) → g w ≤ sizeMost) → sumTo n g ≤ n * sizeMost

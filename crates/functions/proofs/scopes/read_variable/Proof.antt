@@ -45,7 +45,7 @@ returns-5 : tie.Need-returns-5
 unfolding variable andThen demand
 returns-5 c =
     let k : length (take (c .before .before .before .before .before .before .before .before .before .before .before .before .before .args .j) (c .before .before .before .before .before .before .before .before .before .before .before .before .before .args .variables .now)) ≡ c .before .before .before .before .before .before .before .before .before .before .before .before .before .args .j = length-take-le _ _ (omega arith) in
-    rw (← c .before .before .before .before .before .before .before .before .before .any-number .ensures, c .before .before .before .before .before .before .before .x .given .1, lt-ltb _ _ (c .before .before .before .before .if1 .left), sym (c .before .before .before .is-among .ensures) ∙ c .before .before .if2 .left, le-ltb _ _ (c .before .if3 .left), k, lt-ltb _ _ (c .if4 .taken))
+    rw (← c .before .before .before .before .before .before .before .before .before .any-number .ensures, c .before .before .before .before .before .before .before .x .given .1, lt-ltb _ _ (c .before .before .before .before .if1 .left), sym (c .before .before .before .is-among .ensures) ∙ c .before .before .if2 .left, le-ltb _ _ (c .before .if3 .left), k, lt-ltb (c .before .before .before .before .before .before .before .before .before .before .before .before .before .args .j) 1 (c .if4 .taken))
 
 byte-in-requires : tie.Need-byte-in-requires
 byte-in-requires c κs = search needs

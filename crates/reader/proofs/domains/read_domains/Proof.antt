@@ -1,10 +1,9 @@
-use Rattle.reader.proofs.DomainLaws.{domains-stop, domains-more, domains-end, size-range}
+use Rattle.reader.proofs.DomainLaws.{domains-stop, domains-more, domains-end, size-read}
 use Rattle.reader.specs.Domains.{domains}
-use Rattle.tokens.specs.Numbers.{numIs}
 use Rattle.tokens.specs.Tokens.{textOf}
 use Rattle.costs.specs.Limits.{sizeMost}
 use native.Mathlib.Omega.{arith}
-use mathlib.Core.Path.{_≡_, refl, _∙_, sym, ap}
+use mathlib.Core.Path.{_≡_, refl, _∙_, sym}
 use Prim.Native.Nat.{_+_, _-_, _*_, _≤_}
 use borrow.Author.Needs.{needs}
 use Rattle.reader.proofs.domains.read_domains.Statement.{statement}
@@ -38,7 +37,7 @@ returns c =
     sym (l .loop .inv .2 ∙ domains-stop _ (l .loop .left) (l .loop .left - 1) _ _ _ _ _ _ (omega arith) _ (c .before .before .before .read-size .ensures) _ (c .before .answer .given .1))
 
 cast-sizes : tie.Need-cast-sizes Inv-loop μ-loop
-cast-sizes c = omega (arith, size-range _ _ _ _ _ _ _ _ (ap numIs (sym (c .before .before .d .given .1)) ∙ c .before .before .before .before .read-size .ensures))
+cast-sizes c = omega (arith, size-read _ _ _ _ _ _ _ (c .before .before .before .before .read-size .ensures) _ (c .before .before .d .given .1))
 
 element-write-sizes : tie.Need-element-write-sizes Inv-loop μ-loop
 element-write-sizes c = search needs
@@ -50,7 +49,7 @@ larger-requires : tie.Need-larger-requires Inv-loop μ-loop
 larger-requires c κs = search needs
 
 add-entries : tie.Need-add-entries Inv-loop μ-loop
-add-entries c = omega (arith, size-range _ _ _ _ _ _ _ _ (ap numIs (sym (c .before .before .before .before .d .given .1)) ∙ c .before .before .before .before .before .before .read-size .ensures))
+add-entries c = omega (arith, size-read _ _ _ _ _ _ _ (c .before .before .before .before .before .before .read-size .ensures) _ (c .before .before .before .before .d .given .1))
 
 loop-less : tie.Need-loop-less Inv-loop μ-loop
 loop-less c = omega arith
@@ -59,8 +58,8 @@ loop-again : tie.Need-loop-again Inv-loop μ-loop
 loop-again c =
     let l = c .before .before .before .before .before .before .before .before in (
       omega arith,
-      omega (arith, size-range _ _ _ _ _ _ _ _ (ap numIs (sym (c .before .before .before .before .d .given .1)) ∙ c .before .before .before .before .before .before .read-size .ensures)),
-      l .loop .inv .2 ∙ domains-more _ (l .loop .left) (l .loop .left - 1) _ _ _ _ _ _ (omega arith) _ (c .before .before .before .before .before .before .read-size .ensures) _ (c .before .before .before .before .d .given .1) ∙ rw (← c .before .larger .ensures),
+      omega (arith, size-read _ _ _ _ _ _ _ (c .before .before .before .before .before .before .read-size .ensures) _ (c .before .before .before .before .d .given .1)),
+      l .loop .inv .2 ∙ domains-more _ (l .loop .left) (l .loop .left - 1) _ _ _ _ _ _ (omega arith) _ (c .before .before .before .before .before .before .read-size .ensures) _ _ (c .before .before .before .before .d .given .1) (c .before .larger .ensures),
     )
 
 returns-2 : tie.Need-returns-2 Inv-loop μ-loop

@@ -2,19 +2,17 @@ use Rattle.reader.specs.declared.domains.Unary.{Unary}
 use Rattle.reader.specs.declared.headers.Head.{Head}
 use Rattle.functions.proofs.FunctionLaws.{counted-in}
 use Rattle.reader.proofs.ReadingLaws.{take-replicate, body-domains, body-functions, body-after, body-done}
-use Rattle.reader.proofs.DomainLaws.{Good, domains-good, none-good, total-most}
-use Rattle.reader.specs.declared.domains.Domains.{Domains}
+use Rattle.reader.proofs.DomainLaws.{Good, domains-read, total-most}
 use Rattle.reader.specs.Reading.{started}
 use Rattle.functions.specs.Functions.{Draft, draftOf}
-use Rattle.reader.specs.Domains.{domainsIs}
-use Rattle.costs.specs.Limits.{varsMost, functionsMost, entriesMost}
+use Rattle.costs.specs.Limits.{functionsMost, entriesMost}
 use borrow.Author.Tests.{le-leb, lt-leb}
 use lib.Seq.{length-take-le}
 use lib.ListN.{length, take, replicate, getD}
 use native.Mathlib.Omega.{arith}
 use mathlib.Core.List.{List}
-use mathlib.Core.Path.{_≡_, refl, sym, _∙_, ap}
-use Prim.Native.Nat.{ℕ, _≤_, _+_, _*_}
+use mathlib.Core.Path.{_≡_, refl, sym}
+use Prim.Native.Nat.{ℕ, _≤_, _*_}
 use borrow.Author.Needs.{needs}
 use Rattle.reader.proofs.reading.read_body.Statement.{statement}
 use Rattle.reader.proofs.reading.read_body.Tie as tie
@@ -30,11 +28,7 @@ abbrev headOf : tie.After-sizes2 → Head
 headOf p = p .before .before .before .before .before .before .before .before .before .before .before .args .head
 
 good : (p : tie.After-sizes2) → Good (headOf p .vars) (record { entries = unaryRead p .entries; sizes = sizesRead p })
-good p =
-    let n : 0 + headOf p .vars ≡ headOf p .vars = omega arith in
-    let g = domains-good (headOf p .greatest) (headOf p .vars) 0 0 0 (replicate varsMost 0) _ _ _ _
-    (ap (λ (r : Domains). domainsIs r (sizesRead p)) (sym (p .before .before .before .before .before .unary .given .1)) ∙ p .before .before .before .before .before .before .before .read-domains .ensures) (omega (arith, p .before .before .before .before .before .before .before .before .before .before .before .pre .vars-few)) none-good in
-    rw n at g
+good p = domains-read (headOf p .greatest) (headOf p .vars) _ _ _ (sizesRead p) (p .before .before .before .before .before .before .before .read-domains .ensures) (p .before .before .before .before .before .before .before .before .before .before .before .pre .vars-few) (unaryRead p) (p .before .before .before .before .before .unary .given .1)
 
 few : (p : tie.After-sizes2) → unaryRead p .entries ≤ entriesMost
 few p = omega (arith, good p .summed, total-most (headOf p .vars) (λ w. getD (sizesRead p) w 0) (good p .most), p .before .before .before .before .before .before .before .before .before .before .before .pre .vars-few)
