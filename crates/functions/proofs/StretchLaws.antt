@@ -32,9 +32,9 @@ front : (s m n : ℕ) (p zs r : List ℕ) → length p ≡ s → length zs ≡ m
 front s m n p zs r e f = rw (← e, ← f, take-append-add p (zs ++ r) (length zs + n), take-append-add zs r n)
 
 -- costs added to a stretch
-pub stretch-added : (top start many n k all : ℕ) (w cs out : List ℕ) → all ≡ start + (many + n) → k ≡ many → all ≤ length w
+added : (top start many n k all : ℕ) (w cs out : List ℕ) → all ≡ start + (many + n) → k ≡ many → all ≤ length w
     → out ≡ take start w ++ (sums top (take k (drop start w)) cs ++ drop k (drop start w)) → take all out ≡ addedAt top start many cs (take all w)
-stretch-added top start many n k all w cs out e f h o =
+added top start many n k all w cs out e f h o =
     let g : take many (drop start (take all w)) ≡ take many (drop start w) =
     rw (e, drop-take start (many + n) w) (take-take many (many + n) (drop start w) (omega arith)) in
     let d : drop (start + many) (take all w) ≡ take n (drop many (drop start w)) =
@@ -43,6 +43,11 @@ stretch-added top start many n k all w cs out e f h o =
     sums-length top (take many (drop start w)) cs ∙ length-take-le many (drop start w) (omega (arith, length-drop start w)) in
     let t : take start (take all w) ≡ take start w = take-take start all w (omega arith) in
     rw (g, d, t, o, f, e) (front start many n (take start w) (sums top (take many (drop start w)) cs) (drop many (drop start w)) (length-take-le start w (omega arith)) l)
+
+-- which is the stretch that it should be
+pub stretch-added : (top start many from size n k all : ℕ) (w cs out : List ℕ) → start ≡ from → many ≡ size → all ≡ start + (many + n) → k ≡ many → all ≤ length w
+    → out ≡ take start w ++ (sums top (take k (drop start w)) cs ++ drop k (drop start w)) → take all out ≡ addedAt top from size cs (take all w)
+stretch-added top start many from size n k all w cs out p q e f h o = rw (← p, ← q) (added top start many n k all w cs out e f h o)
 
 -- a stretch of its own, after all that was there
 pub stretch-filled : (start many k : ℕ) (w ys out : List ℕ) → length ys ≡ many → start ≤ length w

@@ -1,7 +1,7 @@
 use Rattle.functions.proofs.FunctionLaws.{unary-stop, unary-at, small-one, one-product, unary-below}
 use Rattle.functions.proofs.StretchLaws.{stretch-added}
 use Rattle.tokens.specs.Tokens.{textOf}
-use Rattle.functions.specs.Functions.{draftOf}
+use Rattle.functions.specs.Functions.{draftOf, unaryStart}
 use Rattle.function_costs.specs.FunctionCosts.{costs}
 use borrow.Rule.Slice.PartMut.{putMid, mid-len}
 use lib.ListN.{length, getD, take, drop}
@@ -68,9 +68,8 @@ returns c =
     let out = putMid s (s + m - s) (a .work .now) (c .before .before .before .before .before .read-added .last .0) in (
       λ scopes starts.
           unary-at (draftOf (a .top) (a .vars) (a .sizes .now) (a .state) scopes starts (a .work .now)) (a .x) (take (s + m - s) (drop s (a .work .now))) _ (c .before .before .before .before .before .read-added .last .0) (costs (a .top) (a .ds .now) (textOf (a .text .now)) (a .at)) (c .before .before .before .before .before .read-added .ensures) _ (take (a .state .entries) out) (c .before .next .given .1)
-          (λ cs q. rw (← c .before .before .before .before .before .before .before .before .unary-start .ensures .0, ← c .before .before .before .before .before .before .before .byte-in .ensures)
-          (stretch-added (a .top) s m (a .state .entries - s - m) (s + m - s) (a .state .entries) (a .work .now) cs out (omega arith) (omega arith) (omega (arith, held .few, c .before .before .before .before .before .before .before .before .before .before .before .before .before .pre .1 .1))
-          (ap (λ (l : List ℕ). take s (a .work .now) ++ (l ++ drop (s + m - s) (drop s (a .work .now)))) q))),
+          (λ cs q. stretch-added (a .top) s m (unaryStart (a .sizes .now) (a .x)) (getD (a .sizes .now) (a .x) 0) (a .state .entries - s - m) (s + m - s) (a .state .entries) (a .work .now) cs out (c .before .before .before .before .before .before .before .before .unary-start .ensures .0) (c .before .before .before .before .before .before .before .byte-in .ensures) (omega arith) (omega arith) (omega (arith, held .few, c .before .before .before .before .before .before .before .before .before .before .before .before .before .pre .1 .1))
+          (ap (λ (l : List ℕ). take s (a .work .now) ++ (l ++ drop (s + m - s) (drop s (a .work .now)))) q)),
       (omega arith, omega arith, omega arith),
     )
 
