@@ -30,7 +30,7 @@ pub enum Tuple {
 }
 
 // The default and at most so many tuples, into one function's entries.
-pub fn read_listed(
+pub(crate) fn read_listed(
     cells: &mut [u64],
     text: &[u8],
     at: usize,
@@ -89,7 +89,7 @@ fn settled_cost(default: u64, cost: u64) -> u64
     cost
 }
 
-pub fn smaller(a: u64, b: u64) -> u64
+pub(crate) fn smaller(a: u64, b: u64) -> u64
     ensures { λ r. ⌜ r ≡ min a b ⌝ }
 {
     if a < b {

@@ -53,7 +53,7 @@ pub enum SoftRead {
     No(Answer),
 }
 
-pub fn read_soft(text: &[u8], at: usize) -> SoftRead
+pub(crate) fn read_soft(text: &[u8], at: usize) -> SoftRead
     ensures { λ r. ⌜ softIs r ≡ softSum (textOf (now (text .entry))) at ⌝ }
 {
     let mode = match read_mode(text, at) {
@@ -135,7 +135,7 @@ fn comparator_of(w: &[u8]) -> u64
 }
 
 // Each entry's cost.
-pub fn fill_soft(cells: &mut [u64], ds: &[u64], top: u64, soft: Soft)
+pub(crate) fn fill_soft(cells: &mut [u64], ds: &[u64], top: u64, soft: Soft)
     requires { ⌜ Small (now ds) ⌝ }
     requires { ⌜ length (now cells) ≡ product (now ds) ⌝ }
     requires { ⌜ Fair soft ⌝ }
