@@ -7,9 +7,10 @@ use console::say_refusal;
 use costs::answers::Answer;
 use costs::answers::number;
 use costs::limits::ENTRIES;
+use reader::limits::TEXT;
 
 // One byte more than a text may have: a text that fills this is refused for its length.
-const INPUT: usize = 65_537;
+const INPUT: usize = TEXT + 1;
 
 // One byte more than this program checks.
 const ROOM: usize = 4_194_305;

@@ -4,10 +4,11 @@ use console::IN;
 use console::OUT;
 use console::fill;
 use console::say;
+use reader::limits::TEXT;
 use verdict::verdict;
 
 // One byte more than a text may have: a text that fills this is refused for its length.
-const INPUT: usize = 65_537;
+const INPUT: usize = TEXT + 1;
 
 fn main() {
     if os::arg_count() > 1 {

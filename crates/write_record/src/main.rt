@@ -11,13 +11,14 @@ use costs::answers::number;
 use costs::limits::ENTRIES;
 use costs::limits::VARS;
 use costs::networks::Network;
+use reader::limits::TEXT;
 use records::words::word_at;
 
 // That of the program `fringepond`.
 const BUDGET: u64 = 1_000_000;
 
 // One byte more than a text may have: a text that fills this is refused for its length.
-const INPUT: usize = 65_537;
+const INPUT: usize = TEXT + 1;
 
 // Room for a record; a longer one is refused 12.
 const ROOM: usize = 4_194_304;
