@@ -22,6 +22,7 @@ use Rattle.costs.specs.Net.{Net, Costs, All, entries, costsOf}
 use Rattle.costs.specs.Networks.{stands}
 use Rattle.costs.specs.Judging.{judged}
 use Rattle.costs.proofs.RangeLaws.{sumTo-same}
+use Rattle.costs.proofs.NetLaws.{All-at}
 use Rattle.costs.proofs.RowLaws.{scoped-sound}
 use Rattle.costs.proofs.JudgeLaws.{judged-passed, network-ready}
 use Rattle.shifts.proofs.PassLength.{scoped-within}
@@ -58,16 +59,11 @@ done-said OverBudget e = absurd (omega (arith, e))
 done-said LongRecord e = absurd (omega (arith, e))
 done-said (BrokenRule at) e = absurd (omega (arith, e))
 
-all-get : (P : ℕ → Type 0) (xs : List ℕ) → All P xs → (i : ℕ) → i < length xs → P (getD xs i 0)
-all-get P [] h i l = absurd (omega arith)
-all-get P (x ∷ xs) h zero l = h .0
-all-get P (x ∷ xs) h (suc i) l = all-get P xs (h .1) i (omega arith)
-
 -- the bytes of small words tell them, and nothing past their end
 bytes-tell : (ws : List ℕ) → All (λ w. w < 2 ^ 64) ws → (w : ℕ) → wordAt (bytesOf ws) w ≡ tells ws w
 unfolding wordAt
 bytes-tell ws small w = elim (decLt w (length ws)) [
-  | yes l ↦ words-back ws w (all-get (λ x. x < 2 ^ 64) ws small) l
+  | yes l ↦ words-back ws w (All-at (λ x. x < 2 ^ 64) ws small) l
   | no l ↦
       sumTo-same wordBytes (λ j. 0) (λ j. getD (bytesOf ws) (w * wordBytes + j) 0 * 256 ^ j)
       (λ j m. ap (λ (b : ℕ). b * 256 ^ j) (List·getD-eq-default (bytesOf ws) 0 {n = w * wordBytes + j} (omega (arith, l, bytesOf-many ws))) ∙ zero-mul (256 ^ j))

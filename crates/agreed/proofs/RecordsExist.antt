@@ -10,8 +10,9 @@ use native.Mathlib.Nat.{mul-le-mul}
 use lib.Dec.{leb, ltb}
 use Rattle.costs.specs.Range.{firstTo}
 use Rattle.costs.specs.Limits.{varsMost, sizeMost, functionsMost, costMost}
-use lib.ListN.{length, getD, length-append, length-map}
+use lib.ListN.{length, length-append, length-map}
 use Rattle.costs.specs.Net.{Net, Costs, Sound, All, plans}
+use Rattle.costs.proofs.NetLaws.{All-append, All-by}
 use Rattle.shifts.specs.declared.moves.Move.{Move}
 use Rattle.shifts.specs.declared.moves.Move.the-variants.{Project, Extend, Raise}
 use Rattle.shifts.specs.Moves.{Joins, Legal}
@@ -30,14 +31,6 @@ use Rattle.search.proofs.SearchSize.{LookShort, visit-count, visit-short}
 use Rattle.shifts.proofs.PassLength.{Within, pass-length}
 use Rattle.records.specs.Steps.{wordsOf, spell}
 use Rattle.records.specs.Records.{recordWords}
-
-pub All-append : (P : ℕ → Type 0) (xs ys : List ℕ) → All P xs → All P ys → All P (xs ++ ys)
-All-append P [] ys h k = k
-All-append P (x ∷ xs) ys h k = (h .0, All-append P xs ys (h .1) k)
-
-pub all-at : (P : ℕ → Type 0) (xs : List ℕ) → ((j : ℕ) → j < length xs → P (getD xs j 0)) → All P xs
-all-at P [] h = tt
-all-at P (x ∷ xs) h = (h 0 (omega arith), all-at P xs (λ j l. h (suc j) (omega arith)))
 
 module _ (N S F A W : ℕ) (r : Claim) (lim : Within N S F A (r .net)) (n-fits : N ≤ W) (s-fits : S ≤ W) (f-fits : F ≤ W) (k-fits : r .net .cap < W) (some : 7 < W) where
   five : (a b c d e : ℕ) → a < W → b < W → c < W → d < W → e < W → All (λ w. w < W) (a ∷ b ∷ c ∷ d ∷ e ∷ [])
@@ -88,7 +81,7 @@ module _ (N S F A W : ℕ) (n : Net) (held : Costs) (lim : Within N S F A n) (n-
   values = ⊎-elim
       (λ (h : NoneBelow n held plan cost). (rw (h .plan) tt, rw (h .plan) (omega arith), omega (arith, h .best)))
       (λ (h : Cheapest n held plan cost). (
-        all-at (λ w. w < W) plan (λ j l. omega (arith, h .whole, h .plan .range j (omega (arith, h .whole)), lim .sizes j (omega (arith, h .whole)))),
+        All-by (λ w. w < W) plan (λ j l. omega (arith, h .whole, h .plan .range j (omega (arith, h .whole)), lim .sizes j (omega (arith, h .whole)))),
         omega (arith, h .whole, lim .vars),
         omega (arith, h .below),
       ))

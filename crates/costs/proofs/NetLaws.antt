@@ -1,9 +1,10 @@
 -- Laws of entries, stretches and prices, over any arity. Assumes nothing.
-use Prim.Native.Nat.{ℕ, suc, _+_, _*_, _≤_, _<_, min}
+use Prim.Native.Nat.{ℕ, zero, suc, _+_, _*_, _≤_, _<_, min}
 use mathlib.Core.Path.{_≡_, refl}
-use mathlib.Core.List.{List, [], _∷_}
+use mathlib.Core.List.{List, [], _∷_, _++_}
 use native.Mathlib.Omega.{arith}
 use lib.Arith.{digits-lt}
+use lib.ListN.{length, getD}
 use Rattle.costs.specs.Range.{sumTo}
 use Rattle.costs.specs.Net.{Net, Costs, Sound, IsPlan, All, tuples, entry, start, entries, touched, price}
 use Rattle.costs.proofs.RangeLaws.{sumTo-same, sumTo-mono}
@@ -12,6 +13,20 @@ use Rattle.costs.proofs.CostLaws.{plusTo-cap}
 pub All-map : {P Q : ℕ → Type 0} → ((v : ℕ) → P v → Q v) → (vs : List ℕ) → All P vs → All Q vs
 All-map f [] h = tt
 All-map f (v ∷ vs) h = (f v (h .0), All-map f vs (h .1))
+
+pub All-append : (P : ℕ → Type 0) (xs ys : List ℕ) → All P xs → All P ys → All P (xs ++ ys)
+All-append P [] ys h k = k
+All-append P (x ∷ xs) ys h k = (h .0, All-append P xs ys (h .1) k)
+
+-- what holds of each holds at each place, and the other way round
+pub All-at : (P : ℕ → Type 0) (xs : List ℕ) → All P xs → (j : ℕ) → j < length xs → P (getD xs j 0)
+All-at P [] h j l = absurd (omega arith)
+All-at P (x ∷ xs) h zero l = h .0
+All-at P (x ∷ xs) h (suc j) l = All-at P xs (h .1) j (omega arith)
+
+pub All-by : (P : ℕ → Type 0) (xs : List ℕ) → ((j : ℕ) → j < length xs → P (getD xs j 0)) → All P xs
+All-by P [] h = tt
+All-by P (x ∷ xs) h = (h 0 (omega arith), All-by P xs (λ j l. h (suc j) (omega arith)))
 
 pub entry-lt : (size p : ℕ → ℕ) (vs : List ℕ) → All (λ v. p v < size v) vs → entry size p vs < tuples size vs
 entry-lt size p [] h = omega arith

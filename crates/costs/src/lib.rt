@@ -7,13 +7,17 @@ pub mod plans;
 pub mod prices;
 
 ghost use mathlib.Core.Path.{_≡_};
+ghost use Prim.Native.Nat.{_≤_};
+ghost use Rattle.costs.specs.Limits.{varsMost};
+ghost use Rattle.costs.specs.Plans.{firstBad};
 ghost use Rattle.costs.specs.Prices.{priced};
 use crate::answers::Answer;
 use crate::judging::Judged;
 use crate::judging::judge;
+use crate::limits::VARS;
 use crate::networks::Network;
+use crate::networks::byte_at;
 use crate::plans::Plan;
-use crate::plans::first_bad;
 use crate::prices::Priced;
 use crate::prices::price_of;
 use crate::prices::refused;
@@ -59,4 +63,21 @@ pub fn price(net: Network, table: &[u64], plan: Plan) -> Priced
         answer: Answer::Done,
         price: cost,
     }
+}
+
+// The first variable whose value is not below its size, or their number.
+fn first_bad<'a>(sizes: &'a [u8; VARS], choice: &'a [u8; VARS], vars: usize) -> usize
+    requires { ⌜ vars ≤ varsMost ⌝ }
+    ensures { λ r. ⌜ r ≡ firstBad vars (now (sizes .entry)) (now (choice .entry)) ⌝ }
+{
+    let mut v: usize = 0;
+    while v < vars {
+        let value = byte_at(choice, v);
+        let size = byte_at(sizes, v);
+        if size <= value {
+            return v;
+        }
+        v += 1;
+    }
+    vars
 }

@@ -1,14 +1,15 @@
 -- The costs that are read: as many as a function has tuples, each at most k. Assumes nothing.
-use Prim.Native.Nat.{ℕ, zero, suc, _+_, _*_, _≤_, _<_, min}
+use Prim.Native.Nat.{ℕ, zero, suc, _*_, _≤_, min}
 use mathlib.Core.Path.{_≡_, refl, sym, ap, _∙_}
 use mathlib.Core.Bool.{Bool, true, false, cond}
 use mathlib.Core.Logic.{_⊎_, inl, inr}
-use mathlib.Core.List.{List, [], _∷_, _++_, map}
+use mathlib.Core.List.{List, [], _∷_, map}
 use native.Mathlib.Omega.{arith}
 use lib.Dec.{eqb}
-use lib.ListN.{length, getD, take, drop, set, replicate, length-append, length-set, length-replicate}
+use lib.ListN.{length, take, drop, set, replicate, length-append, length-set, length-replicate}
 use borrow.Author.Tests.{eq-eqb}
 use Rattle.costs.specs.Net.{All}
+use Rattle.costs.proofs.NetLaws.{All-append}
 use Rattle.tokens.specs.Tokens.{Text}
 use Rattle.tokens.specs.Steps.{got}
 use Rattle.tokens.proofs.StepLaws.{and-then, same-value}
@@ -28,10 +29,6 @@ pub record Costed (top many : ℕ) (cs : List ℕ) : Type 0 where
   pub capped : Capped top cs
 
 module _ (P : ℕ → Type 0) where
-  pub all-append : (xs ys : List ℕ) → All P xs → All P ys → All P (xs ++ ys)
-  all-append [] ys h k = k
-  all-append (x ∷ xs) ys h k = (h .0, all-append xs ys (h .1) k)
-
   pub all-take : (n : ℕ) (xs : List ℕ) → All P xs → All P (take n xs)
   all-take zero xs h = tt
   all-take (suc n) [] h = tt
@@ -41,11 +38,6 @@ module _ (P : ℕ → Type 0) where
   all-drop zero xs h = h
   all-drop (suc n) [] h = tt
   all-drop (suc n) (x ∷ xs) h = all-drop n xs (h .1)
-
-  pub all-at : (xs : List ℕ) (j : ℕ) → All P xs → j < length xs → P (getD xs j 0)
-  all-at [] j h l = absurd (omega arith)
-  all-at (x ∷ xs) zero h l = h .0
-  all-at (x ∷ xs) (suc j) h l = all-at xs j (h .1) (omega arith)
 
   pub all-replicate : (n c : ℕ) → P c → All P (replicate n c)
   all-replicate zero c p = tt
@@ -121,7 +113,7 @@ unfolding tabulate
 tabulated top zero g h = record { many-are = refl; capped = tt }
 tabulated top (suc n) g h =
     let r = tabulated top n g h in
-    record { many-are = omega (arith, length-append (tabulate n g) (g n ∷ []), r .many-are); capped = all-append (λ c. c ≤ top) (tabulate n g) (g n ∷ []) (r .capped) (h n, tt) }
+    record { many-are = omega (arith, length-append (tabulate n g) (g n ∷ []), r .many-are); capped = All-append (λ c. c ≤ top) (tabulate n g) (g n ∷ []) (r .capped) (h n, tt) }
 
 soft-costed : (top : ℕ) (ds : List ℕ) (soft : Soft) → Costed top (product ds) (softCosts top ds soft)
 unfolding softCosts softCost

@@ -18,6 +18,7 @@ use Rattle.costs.specs.declared.networks.Network.{Network}
 use Rattle.costs.specs.declared.answers.Answer.the-variants.{LongText, ShortTable}
 use Rattle.costs.proofs.TestLaws.{is-true}
 use Rattle.costs.proofs.RangeLaws.{sumTo-same, sumTo-mono}
+use Rattle.costs.proofs.NetLaws.{All-append, All-at}
 use Rattle.costs.proofs.RowLaws.{scope-unary, scope-function}
 use Rattle.costs.proofs.JudgeLaws.{IsNetwork, by-network, by-different}
 use Rattle.tokens.specs.Tokens.{Text, textOf}
@@ -37,7 +38,7 @@ use Rattle.reader.proofs.HeaderLaws.{InRange, header-range}
 use Rattle.reader.proofs.DomainLaws.{Good, domains-good, none-good, total-most}
 use Rattle.functions.proofs.ScopeLaws.{scope-known}
 use Rattle.functions.proofs.StretchLaws.{sums-length}
-use Rattle.reader.proofs.CostsRead.{Capped, Costed, costs-costed, capped-sums, all-append, all-take, all-drop, all-at, all-replicate}
+use Rattle.reader.proofs.CostsRead.{Capped, Costed, costs-costed, capped-sums, all-take, all-drop, all-replicate}
 
 -- ---- rows
 -- a row's places are set one after the other
@@ -222,8 +223,8 @@ fine-one left d x cs l h =
       placed-at = h .placed-at;
       few = omega (arith, e, h .few);
       whole = e ∙ h .whole;
-      capped = all-append P (take s (d .table)) _ (all-take P s (d .table) (h .capped))
-          (all-append P (sums (d .net .top) (take m (drop s (d .table))) cs) _ (capped-sums (d .net .top) (take m (drop s (d .table))) cs) (all-drop P (s + m) (d .table) (h .capped)));
+      capped = All-append P (take s (d .table)) _ (all-take P s (d .table) (h .capped))
+          (All-append P (sums (d .net .top) (take m (drop s (d .table))) cs) _ (capped-sums (d .net .top) (take m (drop s (d .table))) cs) (all-drop P (s + m) (d .table) (h .capped)));
     }
 
 -- arity 2 and 3: what holds of each row that was there holds, and of the new one
@@ -270,7 +271,7 @@ fine-more left d xs cs two three all distinct room c h =
       ];
       few = omega (arith, long);
       whole = rw n (omega (arith, long, h .whole, before, after));
-      capped = all-append (λ v. v ≤ net .top) (d .table) cs (h .capped) (c .capped);
+      capped = All-append (λ v. v ≤ net .top) (d .table) cs (h .capped) (c .capped);
     }
 
 -- ---- one function, and all of them
@@ -355,7 +356,7 @@ fine-network d rest h = record {
   distinct = λ f l. by-different (scopeIn (inRow (d .net .scopes) f)) .says (h .distinct f l);
   placed = h .placed-at;
   few = omega (arith, h .whole, h .few);
-  costs = λ j l m. let k : j < length (d .table) = omega (arith, h .whole) in rw (List·getD-append (d .table) rest 0 j k) (all-at (λ c. c ≤ d .net .top) (d .table) j (h .capped) k);
+  costs = λ j l m. let k : j < length (d .table) = omega (arith, h .whole) in rw (List·getD-append (d .table) rest 0 j k) (All-at (λ c. c ≤ d .net .top) (d .table) (h .capped) j k);
 }
 
 -- 8 never follows a successful read: the network that was read, beside the lent table as the read leaves it, is a network

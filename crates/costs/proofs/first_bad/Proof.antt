@@ -8,8 +8,8 @@ use borrow.Author.Tests.{lt-ltb, le-ltb}
 use borrow.Author.Count.{below-more}
 use borrow.Author.Needs.{needs}
 use Rattle.costs.proofs.RangeLaws.{firstTo-is, firstTo-none}
-use Rattle.costs.proofs.plans.first_bad.Statement.{statement}
-use Rattle.costs.proofs.plans.first_bad.Tie as tie
+use Rattle.costs.proofs.first_bad.Statement.{statement}
+use Rattle.costs.proofs.first_bad.Tie as tie
 
 abbrev Inv-loop : tie.InvT-loop
 Inv-loop sizes choice vars v₀ v = (v ≤ vars) × ((w : ℕ) → w < v → getD choice w 0 < getD sizes w 0)
