@@ -1,6 +1,5 @@
 pub mod FaultLaws
 pub mod HeaderLaws
-pub mod TableLaws
 pub mod CheckIsTheRules
 pub mod PlaceIsFirst
 pub mod AcceptedIsTrue

@@ -9,7 +9,7 @@ use native.Mathlib.Nat.{add-zero, add-suc, suc-add, zero-add}
 use native.Mathlib.Numerals.{add-one}
 use native.Mathlib.Decide.{ℕ-discrete}
 use lib.Dec.{T, eqb, ltb, eqb→eq, eqb-refl, lt→ltb}
-use lib.ListN.{length, getD, set, replicate}
+use lib.ListN.{length, getD, set}
 use lib.Seq.{getD-set-same, getD-set-other}
 use Rattle.costs.specs.Limits.{varsMost}
 use Rattle.costs.specs.Range.{sumTo}
@@ -17,6 +17,7 @@ use Rattle.costs.specs.Net.{Net}
 use Rattle.costs.proofs.TestLaws.{is-true, is-false}
 use Rattle.costs.proofs.RangeLaws.{sumTo-point}
 use Rattle.shifts.specs.Nodes.{says, fixed}
+use Rattle.shifts.proofs.TableLaws.{zero-at}
 use Rattle.records.specs.Trees.{TreeNode, root, child, children}
 use Rattle.desk.specs.declared.trees.Place.{Place}
 use Rattle.desk.specs.Standing.{isSet, nodeOf, chosen, childrenFrom, levels, pending, Stacked, said, Upright, nodeAt, pendingAt, nodesAt, rootPlace}
@@ -93,17 +94,9 @@ pub from-all : (size : ℕ → ℕ) (d : TreeNode) (i : ℕ) (ds : List TreeNode
 from-all size d i ds = let q : size i - 0 ≡ size i = omega arith in rw q (children-from d i 0 (size i) ds ∙ ap (λ (c : ℕ). children d i c ds) (zero-add (size i)))
 
 -- at the root nothing is fixed
-pub all-free : (v : ℕ) → _≡_ {A = ℕ} (getD (replicate varsMost 0) v 0) 0
-all-free v = go varsMost v
-  where
-    go : (n v : ℕ) → _≡_ {A = ℕ} (getD (replicate n 0) v 0) 0
-    go zero v = refl
-    go (suc n) zero = refl
-    go (suc n) (suc v) = go n v
-
 pub root-nodes : (n : Net) (constant : ℕ) → nodesAt (n .size) (rootPlace constant) ≡ root n ∷ []
 unfolding nodesAt pendingAt
-root-nodes n constant = ap (λ (f : ℕ → ℕ). nodeOf (n .size) f ∷ []) (fun-ext all-free)
+root-nodes n constant = ap (λ (f : ℕ → ℕ). nodeOf (n .size) f ∷ []) (fun-ext (zero-at varsMost))
 
 -- a branch of a free variable puts it on the stack
 pub pending-branch : (size f : ℕ → ℕ) (i : ℕ) (is : List ℕ) → f i ≡ 0 → 0 < size i

@@ -10,13 +10,11 @@ use lib.ListN.{getD}
 use Rattle.costs.specs.declared.answers.Answer.{Answer}
 use Rattle.costs.specs.declared.answers.Answer.the-variants.{Done, LongText, BadToken, OutOfRange, Unfitting, ListedTwice, TextAfter, ShortTable, NotNetwork, BadPlan, Illegal, OverBudget, LongRecord, BrokenRule}
 use Rattle.costs.specs.Answers.{numberOf}
-use Rattle.costs.specs.Range.{allTo, sumTo}
+use Rattle.costs.specs.Limits.{varsMost}
+use Rattle.costs.specs.Range.{allTo}
 use Rattle.costs.specs.Net.{Net, Costs, tuples, start, entries, costsOf}
 use Rattle.costs.specs.Judging.{between}
-use Rattle.costs.specs.Networks.{netOf, Scoped}
-use Rattle.costs.proofs.RangeLaws.{sumTo-same}
-use Rattle.costs.proofs.RowLaws.{scoped-sound}
-use Rattle.costs.proofs.NetLaws.{stretch-below, tuples-unary}
+use Rattle.costs.proofs.NetLaws.{stretch-below}
 use Rattle.costs.proofs.TestLaws.{both, so}
 use Rattle.shifts.specs.declared.moves.Move.{Move}
 use Rattle.shifts.specs.declared.moves.Move.the-variants.{Project, Extend, Raise}
@@ -24,6 +22,7 @@ use Rattle.shifts.specs.declared.outcomes.Outcome.{Outcome}
 use Rattle.shifts.specs.Nodes.{fixed, liveEntry}
 use Rattle.shifts.specs.Moves.{shifted, joins, gives, isLegal}
 use Rattle.shifts.specs.Doors.{Left, leaves, tried}
+use Rattle.shifts.proofs.TableLaws.{zero-at}
 use Rattle.shifts.proofs.LegalTests.{by-joins}
 use Rattle.records.specs.declared.steps.Step.{Step}
 use Rattle.records.specs.declared.steps.Step.the-variants.{Branch, Shift, Close}
@@ -39,7 +38,7 @@ use Rattle.desk.specs.declared.steps.Taken.{Taken}
 use Rattle.desk.specs.Checking.{isNone, may, stepsFault}
 use Rattle.desk.specs.Standing.{isSet, said, Upright, nodeAt, pendingAt, nodesAt, LeadsTo, rootPlace}
 use Rattle.desk.specs.Stepping.{Follows, Took, Shifted, shiftedPlace}
-use Rattle.desk.proofs.StandingLaws.{all-free, root-nodes}
+use Rattle.desk.proofs.StandingLaws.{root-nodes}
 
 allTo-same : (n : ℕ) (t u : ℕ → Bool) → ((i : ℕ) → i < n → t i ≡ u i) → allTo n t ≡ allTo n u
 allTo-same zero t u h = refl
@@ -214,12 +213,6 @@ tried-illegal n live p x t t′ out e d q a = go (isLegal n live (costsOf (p .co
     go true f e = absurd (d (ap (λ (l : Left). numberOf (l .answer)) e))
     go false f e = record { says = a ∙ sym f; place = λ k. none-taken k; table = λ k. none-taken k }
 
--- where each unary stretch begins
-pub first-starts : (top vars functions : ℕ) (sizes rows : List ℕ) → Scoped vars functions sizes rows → (v : ℕ) → v < vars → sumTo v (λ w. getD sizes w 0) ≡ start (netOf top vars functions sizes rows) v
-first-starts top vars functions sizes rows r v l =
-    let n = netOf top vars functions sizes rows in
-    sym (sumTo-same v (λ w. getD sizes w 0) (λ w. tuples (n .size) (n .scope w)) (λ w m. tuples-unary n (scoped-sound top vars functions sizes rows r) w (omega arith)))
-
 -- the loop over the steps: the whole fault is that of the steps that are left, from the place on
 pub record Stands (r : Claim) (at : ℕ → Spelt) (whole : Fault) (left w : ℕ) (p : Place) (t : List ℕ) : Type 0 where
   pub costs : Option Costs
@@ -232,7 +225,7 @@ pub stands-root : (r : Claim) (at : ℕ → Spelt) (left w constant : ℕ) (t : 
 stands-root r at left w constant t e h = record {
   costs = none;
   follows = record { begun = refl; base = e; at = h };
-  upright = record { stacked = all-free };
+  upright = record { stacked = zero-at varsMost };
   same = ap (λ (ds : List TreeNode). stepsFault r at left w ds none) (sym (root-nodes (r .net) constant));
 }
 

@@ -3,7 +3,7 @@ ghost use mathlib.Core.Path.{_≡_};
 ghost use mathlib.Core.Bool.{cond};
 ghost use mathlib.Core.List.{[], _∷_};
 ghost use mathlib.Core.Option.{none};
-ghost use Prim.Native.Nat.{_+_, _*_, _≤_, min};
+ghost use Prim.Native.Nat.{_+_, _*_, _≤_};
 ghost use lib.Dec.{eqb};
 ghost use lib.ListN.{length};
 ghost use Rattle.costs.specs.Net.{costsOf, entries};
@@ -20,7 +20,6 @@ use crate::faults::answer_to;
 use crate::headers::header_fault;
 use crate::headers::values_of;
 use crate::steps::steps_fault;
-use crate::tables::load;
 use crate::values::first_bad_value;
 use crate::values::plan_told;
 use costs::answers::Answer;
@@ -32,6 +31,8 @@ use costs::limits::VARS;
 use costs::prices::price_of;
 use records::words::word_at;
 use shifts::parts::unary_starts;
+use shifts::tables::copy_in;
+use shifts::tables::shorter;
 
 // The answer: refusals 8 and 7, then 13 with its place.
 pub fn answered<'a>(
@@ -77,12 +78,6 @@ pub fn answered<'a>(
         many,
     );
     answer_to(fault)
-}
-
-fn shorter(a: usize, b: usize) -> usize
-    ensures { λ r. ⌜ r ≡ min a b ⌝ }
-{
-    if b < a { b } else { a }
 }
 
 // The first word at which the record breaks a rule.
@@ -198,7 +193,7 @@ fn tree_fault<'a>(
     requires { ⌜ (headerWords + countOf vars (wordAt (now bytes)) + stepWords * wordAt (now bytes) 7) * wordBytes ≤ length (now bytes) ⌝ }
     ensures { λ r. ⌜ r ≡ stepsFault (claims (netOf top vars functions (now (sizes .entry)) (now (scopes .entry))) (costsOf constant (now (held .entry))) (wordAt (now (bytes .entry)))) (stepAt (wordAt (now (bytes .entry)))) (wordAt (now (bytes .entry)) 7) (headerWords + countOf vars (wordAt (now (bytes .entry)))) (root (netOf top vars functions (now (sizes .entry)) (now (scopes .entry))) ∷ []) none ⌝ }
 {
-    load(work, held, many);
+    copy_in(work, held, many);
     let firsts = unary_starts(sizes, vars);
     let from = 8 + values_of(bytes, vars);
     let cost = word_at(bytes, 3);

@@ -5,7 +5,7 @@ mod faults;
 mod headers;
 pub mod showing;
 mod steps;
-mod tables;
+mod stretches;
 mod trees;
 mod values;
 
@@ -15,13 +15,13 @@ ghost use Rattle.desk.specs.Checking.{checked};
 ghost use Rattle.desk.specs.Showing.{shownPart};
 use crate::checking::answered;
 use crate::showing::Which;
-use crate::showing::may_show;
-use crate::showing::part_of;
-use crate::tables::clear;
+use crate::stretches::may_show;
+use crate::stretches::part_of;
 use costs::answers::Answer;
 use costs::networks::Network;
 use costs::networks::start_at;
 use costs::networks::tuples_of;
+use shifts::tables::clear;
 
 // The check of a decision record against the held costs: refusals 8, 7 and 13, in that order. The working table is zero afterwards, always.
 pub fn check(net: Network, held: &[u64], work: &mut [u64], bytes: &[u8]) -> Answer

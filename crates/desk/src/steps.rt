@@ -18,7 +18,6 @@ ghost use Rattle.desk.specs.Checking.{stepsFault};
 ghost use Rattle.desk.specs.Standing.{isSet, said, nodeAt, pendingAt, Upright, LeadsTo};
 ghost use Rattle.desk.specs.Stepping.{AtWork, Follows, Took, Shifted, claimOf};
 use crate::faults::Fault;
-use crate::tables::load;
 use crate::trees::Place;
 use crate::trees::branched;
 use crate::trees::root_place;
@@ -34,6 +33,7 @@ use records::steps::step_of;
 use records::words::word_at;
 use shifts::moves::Move;
 use shifts::moves::try_shift;
+use shifts::tables::copy_in;
 
 // A step, where the rules allow it, and the place after it.
 pub struct Taken {
@@ -255,7 +255,7 @@ fn close_step(
             place: place,
         };
     }
-    load(work, held, many);
+    copy_in(work, held, many);
     let next = turned_back(place, sizes, vars, constant);
     Taken {
         allowed: true,

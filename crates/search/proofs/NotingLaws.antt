@@ -1,28 +1,26 @@
 -- Laws of the noted pass. Assumes nothing.
-use Prim.Native.Nat.{ℕ, zero, suc, _+_, _-_, _*_, _≤_, _<_}
+use Prim.Native.Nat.{ℕ, zero, suc, _+_, _-_, _*_, _≤_}
 use mathlib.Core.Path.{_≡_, refl, sym, ap, _∙_}
-use mathlib.Core.Bool.{Bool, true, false, cond}
+use mathlib.Core.Bool.{Bool, true}
 use mathlib.Core.List.{List, [], _∷_, _++_, append-nil}
 use native.Mathlib.Omega.{arith}
 use native.Mathlib.Numerals.{add-one}
 use lib.ListN.{length, getD, set, length-set}
 use lib.Seq.{getD-set-same, getD-set-other}
-use Rattle.costs.specs.Cost.{plus}
-use Rattle.costs.specs.Net.{Net, Costs, costsOf}
+use Rattle.costs.specs.Net.{Net, costsOf}
 use Rattle.costs.specs.Networks.{netOf, inRow, scopeIn}
-use Rattle.costs.proofs.TestLaws.{is-false}
-use Rattle.costs.proofs.RowLaws.{rest, rest-next, rest-end, scope-function}
+use Rattle.costs.proofs.RowLaws.{scope-function}
 use Rattle.shifts.specs.declared.boxes.Span.{Span}
 use Rattle.shifts.specs.declared.moves.Move.{Move}
 use Rattle.shifts.specs.declared.moves.Move.the-variants.{Project, Raise}
 use Rattle.shifts.specs.Loops.{eachTo}
 use Rattle.shifts.specs.Nodes.{liveIn, fixed}
-use Rattle.shifts.specs.Passing.{Work, least, by, atValue, atScope, projections, atVariable, pass}
+use Rattle.shifts.specs.Passing.{Work, least, atValue, atScope, projections, atVariable, pass}
 use Rattle.shifts.specs.Turns.{Takes, Turns}
 use Rattle.shifts.specs.Parts.{liveSpan}
-use Rattle.shifts.proofs.LoopLaws.{eachTo-next, each-idle}
-use Rattle.shifts.proofs.MoveLaws.{by-live}
-use Rattle.search.specs.Noted.{noteSize, notedMove, moveAt, movesIn}
+use Rattle.shifts.proofs.LoopLaws.{eachTo-next}
+use Rattle.shifts.proofs.TurnLaws.{skips-before, skips-after}
+use Rattle.search.specs.Noted.{noteSize, notedMove, movesIn}
 use Rattle.search.specs.Noting.{raised, Stands, Leads, LeadsOn}
 
 -- a note further on changes no note before it
@@ -120,19 +118,13 @@ module _ (top vars functions : ℕ) (sizes rows fx : List ℕ) where
   abbrev live : ℕ → ℕ → Bool
   live = liveIn sizes fx
 
-  value-dead : (f i a : ℕ) → live i a ≡ false → (w : Work) → atValue net live f i a w ≡ w
-  value-dead f i a e w = rw e
-
   -- a loop over a span of live values skips the dead ones before and after it
   pub values-none : (f i count : ℕ) (x : Span) (t notes : List ℕ) → x ≡ liveSpan sizes fx i → Leads (eachTo (atValue net live f i) (x .from)) t notes count t notes count
-  values-none f i count x t notes e z w h =
-      rw (each-idle (atValue net live f i) 0 (x .from) (omega arith) (λ a l m v. value-dead f i a (is-false (live i a) (λ q. let r = by-live sizes fx i a .says q in omega (arith, rw (← e) at r))) v) w) h
+  values-none f i count x t notes e z w h = rw (skips-before top vars functions sizes rows fx f i x e w) h
 
   pub values-all : (f i a count many : ℕ) (x : Span) (t notes u noted : List ℕ) → x ≡ liveSpan sizes fx i → x .to ≤ getD sizes i 0 → a ≡ x .to → Leads (eachTo (atValue net live f i) a) t notes count u noted many
       → Leads (eachTo (atValue net live f i) (getD sizes i 0)) t notes count u noted many
-  values-all f i a count many x t notes u noted e l q g z w h =
-      rw (each-idle (atValue net live f i) (x .to) (getD sizes i 0) l (λ b m o v. value-dead f i b (is-false (live i b) (λ y. let r = by-live sizes fx i b .says y in omega (arith, rw (← e) at r))) v) w)
-      (rw q at (g z w h))
+  values-all f i a count many x t notes u noted e l q g z w h = rw (skips-after top vars functions sizes rows fx f i a x e l q w) (g z w h)
 
   pub projections-all : (count : ℕ) (t notes u noted : List ℕ) → Leads (eachTo (λ f. atScope net live f (net .scope (vars + f))) functions) t notes 0 u noted count → Leads (projections net live) t notes 0 u noted count
   projections-all count t notes u noted g z w h = let e : vars + functions - vars ≡ functions = omega arith in rw e (g z w h)

@@ -5,9 +5,8 @@ use mathlib.Core.Bool.{Bool, true, false, cond}
 use mathlib.Core.List.{List, [], _++_}
 use mathlib.Core.Logic.{inl, inr}
 use native.Mathlib.Omega.{arith}
-use native.Mathlib.Decide.{decLt}
-use lib.Dec.{leb, ltb}
-use lib.ListN.{length, getD, take, drop, replicate, getD-replicate, drop-of-length-le, List·getD-eq-default, length-take, length-replicate}
+use lib.Dec.{ltb}
+use lib.ListN.{length, getD, take, replicate, drop-of-length-le, length-take}
 use borrow.Author.Tests.{lt-ltb, le-ltb, ltb-true, ltb-false}
 use Rattle.costs.specs.declared.networks.Network.{Network}
 use Rattle.costs.specs.declared.answers.Answer.{Answer}
@@ -22,7 +21,7 @@ use Rattle.costs.proofs.TestLaws.{is-true}
 use Rattle.costs.proofs.RowLaws.{scoped-sound}
 use Rattle.costs.proofs.JudgeLaws.{judged-passed, network-ready}
 use Rattle.shifts.specs.Parts.{Laid}
-use Rattle.shifts.specs.declared.nodes.Node.{Node}
+use Rattle.shifts.proofs.TableLaws.{zero-at}
 use Rattle.shifts.proofs.NodeLaws.{by-bytes}
 use Rattle.shifts.proofs.DoorLaws.{laid-by}
 use Rattle.records.specs.declared.steps.Step.{Step}
@@ -37,9 +36,6 @@ use Rattle.search.specs.Visiting.{Fixes, Meets, visited}
 use Rattle.search.specs.Doors.{Left, beginning, refusedSearch, finishedSearch, recordBytes, refusedLeft, finishedLeft, searchOf, searchLeaves}
 use Rattle.search.proofs.FirstSearchRight.{first-answer}
 use Rattle.search.proofs.SpliceLaws.{values-size}
-
-pub zero-at : (n v : ℕ) → getD {A = ℕ} (replicate n 0) v 0 ≡ 0
-zero-at n v = elim (decLt v n) [ yes l ↦ getD-replicate n v 0 0 l | no l ↦ List·getD-eq-default (replicate n 0) 0 (rw (length-replicate {A = ℕ} n 0) (omega (arith, l))) ]
 
 -- at the beginning no variable is fixed
 pub fixes-none : (sizes : List ℕ) → Fixes (replicate varsMost 0) sizes 0

@@ -1,33 +1,26 @@
 -- Laws of bytes written into a buffer. Assumes nothing.
-use Prim.Native.Nat.{ℕ, zero, suc, _+_, _-_, _*_, _/_, _≤_, _<_, min}
+use Prim.Native.Nat.{ℕ, zero, suc, _+_, _-_, _*_, _/_, _≤_, _<_}
 use mathlib.Core.Path.{_≡_, refl, sym, ap, _∙_}
 use mathlib.Core.Bool.{Bool, true, false, cond}
 use mathlib.Core.List.{List, [], _∷_, _++_, append-assoc, append-nil, map}
 use native.Mathlib.Omega.{arith}
 use native.Mathlib.Numerals.{add-one, towards-suc}
 use borrow.Author.Tests.{le-leb, lt-leb}
-use lib.ListN.{length, getD, take, drop, set, replicate, length-append, length-take, length-drop, length-replicate, take-append-drop, drop-of-length-le, List·getD-append, replicate-append-replicate}
-use lib.Seq.{sets, sets-eq, length-take-le, take-at, drop-at, drop-drop, take-append-le, drop-append-le, set-split, set-at, take-suc, drop-cons, getD-take}
+use lib.ListN.{length, getD, take, drop, set, replicate, length-append, length-drop, length-replicate, take-append-drop, drop-of-length-le, List·getD-append, replicate-append-replicate}
+use lib.Seq.{sets, sets-eq, length-take-le, take-at, drop-at, drop-drop, drop-append-le, set-split, set-at, take-suc, drop-cons, getD-take}
 use Rattle.shifts.specs.declared.moves.Move.{Move}
 use Rattle.shifts.specs.declared.moves.Move.the-variants.{Project}
 use Rattle.search.specs.Noted.{notedMove, moveAt, movesIn}
 use Rattle.records.specs.declared.steps.Step.{Step}
 use Rattle.records.specs.declared.steps.Step.the-variants.{Shift}
 use Rattle.records.specs.Words.{wordBytes, bytesTo, bytesOf}
-use Rattle.records.specs.Steps.{stepWords, wordsOf, spell}
+use Rattle.records.specs.Steps.{wordsOf, spell}
+use Rattle.records.proofs.WordLaws.{bytesTo-many, bytesOf-many}
 use Rattle.records.proofs.StepLaws.{words-many, spell-many}
 use Rattle.search.specs.declared.writing.Spot.{Spot}
 use Rattle.search.specs.FirstSearch.{listTo}
 use Rattle.search.proofs.TidyNodes.{list-length}
 use Rattle.search.specs.Splicing.{spliced, headerBytes, stepBytes, Kept, TooLong, Written, Adds, recordOf, valuesOf, Finished}
-
-pub bytesTo-length : (n x : ℕ) → length (bytesTo n x) ≡ n
-bytesTo-length zero x = refl
-bytesTo-length (suc n) x = ap suc (bytesTo-length n (x / 256))
-
-pub bytesOf-length : (xs : List ℕ) → length (bytesOf xs) ≡ length xs * wordBytes
-bytesOf-length [] = refl
-bytesOf-length (x ∷ xs) = length-append (bytesTo wordBytes x) (bytesOf xs) ∙ omega (arith, bytesTo-length wordBytes x, bytesOf-length xs)
 
 pub bytesOf-append : (xs ys : List ℕ) → bytesOf (xs ++ ys) ≡ bytesOf xs ++ bytesOf ys
 bytesOf-append [] ys = refl
@@ -79,7 +72,7 @@ eight out at a b c d e f g h = simp towards-suc
 pub word-then : (at b x : ℕ) (xs o out : List ℕ) → o ≡ spliced at (bytesOf xs) out → b ≡ at + length xs * wordBytes → b + wordBytes ≤ length out → spliced b (bytesTo wordBytes x) o ≡ spliced at (bytesOf (xs ++ (x ∷ []))) out
 word-then at b x xs o out e p fits =
     let one : bytesOf (x ∷ []) ≡ bytesTo wordBytes x = append-nil (bytesTo wordBytes x) in
-    rw (e, bytesOf-append xs (x ∷ []), one) (spliced-then at b (bytesOf xs) (bytesTo wordBytes x) out (omega (arith, bytesOf-length xs)) (omega (arith, bytesTo-length wordBytes x)))
+    rw (e, bytesOf-append xs (x ∷ []), one) (spliced-then at b (bytesOf xs) (bytesTo wordBytes x) out (omega (arith, bytesOf-many xs)) (omega (arith, bytesTo-many wordBytes x)))
 
 pub first-word : (at x : ℕ) (out : List ℕ) → spliced at (bytesTo wordBytes x) out ≡ spliced at (bytesOf (x ∷ [])) out
 first-word at x out = rw append-nil
@@ -105,7 +98,7 @@ kept-more out out′ at steps s h fits e = record {
 }
   where
     many : length (bytesOf (wordsOf s)) ≡ stepBytes
-    many = omega (arith, bytesOf-length (wordsOf s), words-many s)
+    many = omega (arith, bytesOf-many (wordsOf s), words-many s)
 
     front : take (at + stepBytes) (spliced at (bytesOf (wordsOf s)) out) ≡ take at out ++ bytesOf (wordsOf s)
     front = rw (← many) (take-spliced at (bytesOf (wordsOf s)) out (omega (arith, many)))
@@ -235,7 +228,7 @@ assembled at by h v steps o1 o2 o3 o4 out kept fits hl vl e1 e2 e3 e4 = record {
     S = bytesOf (spell steps)
 
     sl : length S ≡ at - headerBytes
-    sl = bytesOf-length (spell steps) ∙ omega (arith, spell-many steps, kept .place)
+    sl = bytesOf-many (spell steps) ∙ omega (arith, spell-many steps, kept .place)
 
     first : o1 ≡ spliced (headerBytes + by) S out
     first = e1 ∙ ap (λ (l : List ℕ). spliced (headerBytes + by) l out) (kept .bytes)
@@ -247,10 +240,10 @@ assembled at by h v steps o1 o2 o3 o4 out kept fits hl vl e1 e2 e3 e4 = record {
     X = bytesOf h ++ bytesOf v
 
     xl : length X ≡ headerBytes + by
-    xl = length-append (bytesOf h) (bytesOf v) ∙ omega (arith, bytesOf-length h, bytesOf-length v)
+    xl = length-append (bytesOf h) (bytesOf v) ∙ omega (arith, bytesOf-many h, bytesOf-many v)
 
     third : o3 ≡ spliced 0 X o1
-    third = e3 ∙ ap (spliced headerBytes (bytesOf v)) e2 ∙ spliced-then 0 headerBytes (bytesOf h) (bytesOf v) o1 (omega (arith, bytesOf-length h)) (omega (arith, len1, bytesOf-length v, kept .place))
+    third = e3 ∙ ap (spliced headerBytes (bytesOf v)) e2 ∙ spliced-then 0 headerBytes (bytesOf h) (bytesOf v) o1 (omega (arith, bytesOf-many h)) (omega (arith, len1, bytesOf-many v, kept .place))
 
     back : drop (headerBytes + by) o1 ≡ S ++ drop (headerBytes + by + length S) out
     back = ap (drop (headerBytes + by)) (first ∙ spliced-is (headerBytes + by) S out) ∙ drop-at (take (headerBytes + by) out) _ (headerBytes + by) (length-take-le (headerBytes + by) out (omega (arith, kept .place)))
@@ -277,7 +270,7 @@ assembled at by h v steps o1 o2 o3 o4 out kept fits hl vl e1 e2 e3 e4 = record {
 
 pub record-size : (vars : ℕ) (found : Bool) (cost : ℕ) (values : List ℕ) (steps : List Step)
     → length (bytesOf (recordOf vars found cost values steps)) ≡ headerBytes + length values * wordBytes + stepBytes * length steps
-record-size vars found cost values steps = bytesOf-length (recordOf vars found cost values steps) ∙ omega (arith, length-append values (spell steps), spell-many steps)
+record-size vars found cost values steps = bytesOf-many (recordOf vars found cost values steps) ∙ omega (arith, length-append values (spell steps), spell-many steps)
 
 -- a record that is longer than the buffer
 pub finished-over : (vars : ℕ) (found : Bool) (cost : ℕ) (values : List ℕ) (steps : List Step) (o out : List ℕ) → length out < headerBytes + length values * wordBytes + stepBytes * length steps

@@ -1,8 +1,9 @@
 // The search and its record. This file is the room's door.
-pub mod noting;
+mod noting;
 pub mod results;
-pub mod visiting;
-pub mod writing;
+mod telling;
+mod visiting;
+mod writing;
 
 ghost use mathlib.Core.Path.{_≡_};
 ghost use Prim.Native.Nat.{ℕ};
@@ -10,10 +11,10 @@ ghost use lib.ListN.{getD};
 ghost use Rattle.search.specs.Doors.{Left, searchLeaves};
 use crate::noting::NOTES;
 use crate::results::Searched;
-use crate::results::begin;
-use crate::results::below;
-use crate::results::finished;
-use crate::results::refused;
+use crate::telling::begin;
+use crate::telling::below;
+use crate::telling::finished;
+use crate::telling::refused;
 use crate::visiting::visit;
 use crate::writing::clear_from;
 use crate::writing::write_record;
@@ -22,9 +23,9 @@ use costs::judging::Judged;
 use costs::judging::judge;
 use costs::limits::VARS;
 use costs::networks::Network;
-use shifts::clear;
 use shifts::parts::unary_starts;
-use shifts::shorter;
+use shifts::tables::clear;
+use shifts::tables::shorter;
 
 // The cheapest plan below the bound, or that there is none; where a record is asked for, it is written into `out`. Refusals 8, 7, 11 and 12, in that order.
 pub fn search(

@@ -27,8 +27,8 @@ use costs::limits::FUNCTIONS;
 use costs::limits::ROWS;
 use costs::limits::VARS;
 use costs::networks::byte_at;
-use shifts::copy_in;
 use shifts::passing::pass_over;
+use shifts::tables::copy_in;
 
 // How far the search has come. The best plan's values and the record's steps stand in lent buffers.
 pub struct Progress {

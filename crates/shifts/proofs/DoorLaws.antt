@@ -2,9 +2,9 @@
 use Prim.Native.Nat.{ℕ, _≤_, _<_, min}
 use mathlib.Core.Path.{_≡_, sym, ap, _∙_}
 use mathlib.Core.Bool.{true, false}
-use mathlib.Core.List.{List}
+use mathlib.Core.List.{List, _++_}
 use native.Mathlib.Omega.{arith}
-use lib.ListN.{length, getD}
+use lib.ListN.{length, getD, take, drop, replicate}
 use Rattle.costs.specs.declared.networks.Network.{Network}
 use Rattle.costs.specs.declared.answers.Answer.{Answer}
 use Rattle.costs.specs.declared.answers.Answer.the-variants.{Done, Illegal}
@@ -24,11 +24,13 @@ use Rattle.shifts.specs.declared.moves.Move.{Move}
 use Rattle.shifts.specs.Nodes.{liveAt, nodeGood}
 use Rattle.shifts.specs.Parts.{Laid}
 use Rattle.shifts.specs.Passing.{pass}
-use Rattle.shifts.specs.Doors.{leaves, shiftLeaves, upTo, zeros, passLeaves, tried}
+use Rattle.shifts.specs.Doors.{leaves, shiftLeaves, upTo, passLeaves, tried}
+use Rattle.shifts.proofs.TableLaws.{cleared-costs, copied-costs}
 use Rattle.shifts.proofs.NodeLaws.{by-bytes}
 use Rattle.shifts.proofs.PassStaysBelow.{pass-stays-below}
 
-start-first : (top vars functions : ℕ) (sizes rows : List ℕ) → Scoped vars functions sizes rows → (v : ℕ) → v < vars → start (netOf top vars functions sizes rows) v ≡ sumTo v (λ w. getD sizes w 0)
+-- where the unary stretches begin
+pub start-first : (top vars functions : ℕ) (sizes rows : List ℕ) → Scoped vars functions sizes rows → (v : ℕ) → v < vars → start (netOf top vars functions sizes rows) v ≡ sumTo v (λ w. getD sizes w 0)
 start-first top vars functions sizes rows r v l =
     let n = netOf top vars functions sizes rows in
     sumTo-same v (λ w. getD sizes w 0) (λ w. tuples (n .size) (n .scope w)) (λ w m. tuples-unary n (scoped-sound top vars functions sizes rows r) w (omega arith))
@@ -69,22 +71,22 @@ module _ (net : Network) (held work : List ℕ) (node : Node) where
   abbrev room : ℕ
   room = min (length held) (length work)
 
-  pub pass-refused : (a : Answer) (u : List ℕ) → Refused a ≡ judged net held room → costsOf 0 u ≡ zeros → leaves (record { answer = a; constant = 0 }) u ≡ passLeaves net held work node
+  pub pass-refused : (a : Answer) (u : List ℕ) → Refused a ≡ judged net held room → u ≡ replicate (length work) 0 → leaves (record { answer = a; constant = 0 }) u ≡ passLeaves net held work node
   unfolding passLeaves
-  pass-refused a u e z = rw (← e) (ap (λ (c : Costs). record { answer = a; costs = c }) z)
+  pass-refused a u e z = rw (← e) (ap (λ (c : Costs). record { answer = a; costs = c }) (cleared-costs (length work) 0 u z))
 
-  pub pass-node : (many : ℕ) (u : List ℕ) → Entries many ≡ judged net held room → nodeGood (net .vars) (net .sizes) (node .fixed) ≡ false → costsOf 0 u ≡ zeros
+  pub pass-node : (many : ℕ) (u : List ℕ) → Entries many ≡ judged net held room → nodeGood (net .vars) (net .sizes) (node .fixed) ≡ false → u ≡ replicate (length work) 0
       → leaves (record { answer = Illegal; constant = 0 }) u ≡ passLeaves net held work node
   unfolding passLeaves
-  pass-node many u e g z = rw (← e, g) (ap (λ (c : Costs). record { answer = Illegal; costs = c }) z)
+  pass-node many u e g z = rw (← e, g) (ap (λ (c : Costs). record { answer = Illegal; costs = c }) (cleared-costs (length work) 0 u z))
 
   pub pass-done : (many r : ℕ) (u v : List ℕ) → Entries many ≡ judged net held room → nodeGood (net .vars) (net .sizes) (node .fixed) ≡ true
-      → ((z : ℕ) → costsOf z u ≡ upTo many (costsOf z held) work) → costsOf r v ≡ pass (stands net) (liveAt net node) (costsOf (net .constant) u) .costs
+      → u ≡ take many held ++ drop many work → costsOf r v ≡ pass (stands net) (liveAt net node) (costsOf (net .constant) u) .costs
       → leaves (record { answer = Done; constant = r }) v ≡ passLeaves net held work node
   unfolding passLeaves
   pass-done many r u v e g copied passed =
       let p = judged-passed net held room many e in
-      let start : costsOf (net .constant) u ≡ upTo (entries (stands net)) (costsOf (net .constant) held) work = rw (p .many-is) at (copied (net .constant)) in
+      let start : costsOf (net .constant) u ≡ upTo (entries (stands net)) (costsOf (net .constant) held) work = rw (p .many-is) at (copied-costs held work u many (net .constant) (omega (arith, p .roomy)) copied) in
       let sound = scoped-sound (net .top) (net .vars) (net .functions) (net .sizes) (net .scopes) (network-ready net held (p .network) .scoped) in
       let all : costsOf r v ≡ upTo (entries (stands net)) (pass (stands net) (liveAt net node) (costsOf (net .constant) held) .costs) work
       = passed ∙ rw start (pass-stays-below (stands net) (liveAt net node) work sound (costsOf (net .constant) held)) in

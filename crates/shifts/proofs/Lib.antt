@@ -1,5 +1,6 @@
 pub mod LoopLaws
 pub mod PlaceLaws
+pub mod TableLaws
 pub mod GivingLaws
 pub mod BoxLaws
 pub mod NodeLaws

@@ -1,5 +1,5 @@
 -- Laws of loops over the numbers below n. Assumes nothing.
-use Prim.Native.Nat.{ℕ, zero, suc, _+_, _*_, _≤_, _<_, min}
+use Prim.Native.Nat.{ℕ, zero, suc, _+_, _*_, _≤_, _<_}
 use mathlib.Core.Path.{_≡_, refl, _∙_}
 use mathlib.Core.Bool.{Bool, true, false, cond}
 use native.Mathlib.Omega.{arith}
@@ -14,9 +14,6 @@ use Rattle.shifts.specs.Loops.{eachTo, leastTo}
 -- at i + 1, as a loop has it
 pub eachTo-next : {S : Type 0} (step : ℕ → S → S) (i : ℕ) (s : S) → eachTo step (i + 1) s ≡ step i (eachTo step i s)
 eachTo-next step i s = rw add-one
-
-pub leastTo-next : (k : ℕ) (counts : ℕ → Bool) (g : ℕ → ℕ) (i : ℕ) → leastTo k counts g (i + 1) ≡ min (leastTo k counts g i) (cond (counts i) (g i) k)
-leastTo-next k counts g i = rw add-one
 
 -- what every step keeps is kept
 pub each-keeps : {S : Type 0} (P : S → Type 0) (step : ℕ → S → S) (n : ℕ) → ((i : ℕ) → i < n → (x : S) → P x → P (step i x)) → (s : S) → P s → P (eachTo step n s)

@@ -66,15 +66,21 @@ module _ (top vars functions : ℕ) (sizes rows fx : List ℕ) where
   live = liveIn sizes fx
 
   -- a loop over a span of live values skips the dead ones before and after it
+  dead : (f i a : ℕ) (x : Span) → x ≡ liveSpan sizes fx i → (x .from ≤ a → x .to ≤ a) → (w : Work) → atValue net live f i a w ≡ w
+  dead f i a x e out w = value-dead net live f i a (is-false (live i a) (λ q. let r = rw (← e) at (by-live sizes fx i a .says q) in omega (arith, r, out (r .0)))) w
+
+  pub skips-before : (f i : ℕ) (x : Span) → x ≡ liveSpan sizes fx i → (w : Work) → eachTo (atValue net live f i) (x .from) w ≡ w
+  skips-before f i x e w = each-idle (atValue net live f i) 0 (x .from) (omega arith) (λ a l m v. dead f i a x e (λ q. absurd (omega arith)) v) w
+
+  pub skips-after : (f i a : ℕ) (x : Span) → x ≡ liveSpan sizes fx i → x .to ≤ getD sizes i 0 → a ≡ x .to → (w : Work) → eachTo (atValue net live f i) (getD sizes i 0) w ≡ eachTo (atValue net live f i) a w
+  skips-after f i a x e l q w = rw q (each-idle (atValue net live f i) (x .to) (getD sizes i 0) l (λ b m o v. dead f i b x e (λ r. m) v) w)
+
   pub values-none : (f i : ℕ) (x : Span) (t : List ℕ) → x ≡ liveSpan sizes fx i → Turns (eachTo (atValue net live f i) (x .from)) t t
-  values-none f i x t e z w h =
-      rw (each-idle (atValue net live f i) 0 (x .from) (omega arith) (λ a l m v. value-dead net live f i a (is-false (live i a) (λ q. let r = by-live sizes fx i a .says q in omega (arith, rw (← e) at r))) v) w) h
+  values-none f i x t e z w h = rw (skips-before f i x e w) h
 
   pub values-all : (f i a : ℕ) (x : Span) (t u : List ℕ) → x ≡ liveSpan sizes fx i → x .to ≤ getD sizes i 0 → a ≡ x .to → Turns (eachTo (atValue net live f i) a) t u
       → Turns (eachTo (atValue net live f i) (getD sizes i 0)) t u
-  values-all f i a x t u e l q g z w h =
-      rw (each-idle (atValue net live f i) (x .to) (getD sizes i 0) l (λ b m o v. value-dead net live f i b (is-false (live i b) (λ y. let r = by-live sizes fx i b .says y in omega (arith, rw (← e) at r))) v) w)
-      (rw q at (g z w h))
+  values-all f i a x t u e l q g z w h = rw (skips-after f i a x e l q w) (g z w h)
 
   -- the loop over the functions is the projections
   pub projections-all : (t u : List ℕ) → Turns (eachTo (λ f. atScope net live f (net .scope (vars + f))) functions) t u → Turns (projections net live) t u

@@ -1,28 +1,34 @@
 // Nodes, legal shifts of cost and the bounding pass. This file is the room's door.
-pub mod boxes;
+mod blocks;
+mod boxes;
 pub mod moves;
 pub mod nodes;
 pub mod outcomes;
 pub mod parts;
 pub mod passing;
+pub mod tables;
 
 ghost use mathlib.Core.Path.{_≡_};
-ghost use Prim.Native.Nat.{ℕ, _≤_, min};
-ghost use lib.ListN.{length};
-ghost use Rattle.shifts.specs.Doors.{leaves, shiftLeaves, passLeaves, upTo};
-ghost use Rattle.costs.specs.Net.{costsOf};
+ghost use Prim.Native.Nat.{_≤_};
+ghost use Rattle.costs.specs.Limits.{varsMost};
+ghost use Rattle.shifts.specs.Nodes.{nodeGood};
+ghost use Rattle.shifts.specs.Doors.{leaves, shiftLeaves, passLeaves};
 use crate::moves::Move;
 use crate::moves::try_shift;
 use crate::nodes::Node;
-use crate::nodes::node_good;
 use crate::outcomes::Outcome;
 use crate::outcomes::refused;
 use crate::parts::unary_starts;
 use crate::passing::pass_over;
+use crate::tables::clear;
+use crate::tables::copy_in;
+use crate::tables::shorter;
 use costs::answers::Answer;
 use costs::judging::Judged;
 use costs::judging::judge;
+use costs::limits::VARS;
 use costs::networks::Network;
+use costs::networks::byte_at;
 
 // One shift at a node: refusals 8, 7 and 10, in that order.
 pub fn shift(net: Network, table: &mut [u64], node: Node, one: Move) -> Outcome
@@ -111,31 +117,19 @@ pub fn pass(net: Network, held: &[u64], work: &mut [u64], node: Node) -> Outcome
     }
 }
 
-pub fn shorter(a: usize, b: usize) -> usize
-    ensures { λ r. ⌜ r ≡ min a b ⌝ }
+// Each fixed value is below its variable's size.
+fn node_good<'a>(sizes: &'a [u8; VARS], node: &'a [u8; VARS], vars: usize) -> bool
+    requires { ⌜ vars ≤ varsMost ⌝ }
+    ensures { λ r. ⌜ r ≡ nodeGood vars (now (sizes .entry)) (now (node .entry)) ⌝ }
 {
-    if b < a { b } else { a }
-}
-
-// Zeros throughout.
-pub fn clear(table: &mut [u64])
-    ensures { λ _. ⌜ ((z : ℕ) → costsOf z (now (table .exit)) ≡ record { base = z; at = λ j. 0 }) ⌝ }
-{
-    let mut j: usize = 0;
-    while j < table.len() {
-        table[j] = 0;
-        j += 1;
+    let mut v: usize = 0;
+    while v < vars {
+        let said = byte_at(node, v);
+        let size = byte_at(sizes, v);
+        if size < said {
+            return false;
+        }
+        v += 1;
     }
-}
-
-// The first entries of another table; the rest stays.
-pub fn copy_in(table: &mut [u64], from: &[u64], many: usize)
-    requires { ⌜ (many ≤ length (now table)) × (many ≤ length (now from)) ⌝ }
-    ensures { λ _. ⌜ ((z : ℕ) → costsOf z (now (table .exit)) ≡ upTo many (costsOf z (now (from .entry))) (now (table .entry))) ⌝ }
-{
-    let mut j: usize = 0;
-    while j < many {
-        table[j] = from[j];
-        j += 1;
-    }
+    true
 }

@@ -3,7 +3,7 @@ use native.Mathlib.Omega.{arith}
 use lib.ListN.{length}
 use borrow.Author.Needs.{needs}
 use Rattle.costs.specs.declared.answers.Answer.the-variants.{Done}
-use Rattle.search.proofs.SearchDoorLaws.{zero-at}
+use Rattle.shifts.proofs.TableLaws.{cleared-at}
 use Rattle.agreed.proofs.FiledRecords.{done-said, filed-inside, filed-answer}
 use Rattle.agreed.proofs.desk_answer.Statement.{statement}
 use Rattle.agreed.proofs.desk_answer.Tie as tie
@@ -33,7 +33,7 @@ same-length : tie.Need-same-length
 same-length c = search needs
 
 returns-2 : tie.Need-returns-2
-returns-2 c = let d : (c .before .before .before .before .before .before .before .before .before .before .before) .args .said ≡ Done = done-said _ (sym (c .before .before .before .before .before .before .before .number .ensures) ∙ omega (arith, c .before .before .before .before .before .before .if1 .left)) in let f = c .before .before .before .before .before .before .before .before .before .before .before .pre d in (c .before .before .check .ensures .0 ∙ filed-answer _ _ _ _ f (c .before .before .before .before .before .record-size .result) _ (c .before .before .before .before .before .record-size .ensures) refl ∙ sym d, λ z j. rw (c .before .before .check .ensures .1) (zero-at (length (c .before .before .before .before .before .before .before .before .before .before .before .args .work .now)) j))
+returns-2 c = let d : (c .before .before .before .before .before .before .before .before .before .before .before) .args .said ≡ Done = done-said _ (sym (c .before .before .before .before .before .before .before .number .ensures) ∙ omega (arith, c .before .before .before .before .before .before .if1 .left)) in let f = c .before .before .before .before .before .before .before .before .before .before .before .pre d in (c .before .before .check .ensures .0 ∙ filed-answer _ _ _ _ f (c .before .before .before .before .before .record-size .result) _ (c .before .before .before .before .before .record-size .ensures) refl ∙ sym d, λ z. cleared-at (length (c .before .before .before .before .before .before .before .before .before .before .before .args .work .now)) _ (c .before .before .check .ensures .1))
 
 pub desk-answer-spec : {M : Type 1} → statement M
 desk-answer-spec =

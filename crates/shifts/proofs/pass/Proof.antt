@@ -35,7 +35,7 @@ returns : tie.Need-returns
 returns c =
     let s = c .before .before .before .before .before .before .before .before .before .before .before .before .before .before .before .before .args in
     let e = told (s .t1) (s .held .now) (c .before .before .before .before .before .before .before .before .before .before .before .before .before .shorter .result) (min (length (s .held .now)) (length (s .work .now))) (c .before .before .before .before .before .before .before .before .judge .result) _ (c .before .before .before .before .before .before .before .before .before .before .before .before .before .shorter .ensures) (c .before .before .before .before .before .before .before .before .judge .ensures) (c .before .before .before .before .before .before .judged2 .given .1) in
-    rw (c .refused .ensures) (pass-refused (s .t1) (s .held .now) (s .work .now) (s .t4) _ (c .before .before .before .clear .last .0) e (c .before .before .before .clear .ensures 0))
+    rw (c .refused .ensures) (pass-refused (s .t1) (s .held .now) (s .work .now) (s .t4) _ (c .before .before .before .clear .last .0) e (c .before .before .before .clear .ensures))
 
 node-good-requires : tie.Need-node-good-requires
 node-good-requires c κs =
@@ -58,7 +58,7 @@ returns-2 c =
     let s = c .before .before .before .before .before .before .before .before .before .before .before .before .before .before .before .before .before .before .before .before .before .before .args in
     let many = c .before .before .before .before .before .before .before .before .before .before .before .before .judged .given .0 .0 in
     let e = told (s .t1) (s .held .now) (c .before .before .before .before .before .before .before .before .before .before .before .before .before .before .before .before .before .before .before .shorter .result) (min (length (s .held .now)) (length (s .work .now))) (c .before .before .before .before .before .before .before .before .before .before .before .before .before .before .judge .result) (Entries many) (c .before .before .before .before .before .before .before .before .before .before .before .before .before .before .before .before .before .before .before .shorter .ensures) (c .before .before .before .before .before .before .before .before .before .before .before .before .before .before .judge .ensures) (c .before .before .before .before .before .before .before .before .before .before .before .before .judged .given .1) in
-    rw (c .refused2 .ensures) (pass-node (s .t1) (s .held .now) (s .work .now) (s .t4) many (c .before .before .before .clear2 .last .0) e (sym (c .before .before .before .before .before .before .node-good .ensures) ∙ not-true (c .before .before .before .before .before .before .node-good .result) (c .before .before .before .before .before .if1 .taken)) (c .before .before .before .clear2 .ensures 0))
+    rw (c .refused2 .ensures) (pass-node (s .t1) (s .held .now) (s .work .now) (s .t4) many (c .before .before .before .clear2 .last .0) e (sym (c .before .before .before .before .before .before .node-good .ensures) ∙ not-true (c .before .before .before .before .before .before .node-good .result) (c .before .before .before .before .before .if1 .taken)) (c .before .before .before .clear2 .ensures))
 
 copy-in-requires : tie.Need-copy-in-requires
 copy-in-requires c κs =

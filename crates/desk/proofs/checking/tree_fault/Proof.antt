@@ -1,16 +1,16 @@
-use Rattle.desk.proofs.TableLaws.{copied-at}
-use Rattle.desk.proofs.SteppingLaws.{first-starts}
+use Rattle.shifts.proofs.TableLaws.{copied-at}
+use Rattle.shifts.proofs.DoorLaws.{start-first}
 use Rattle.records.specs.Words.{wordAt}
 use Rattle.costs.specs.Networks.{netOf}
 use lib.ListN.{length}
 use native.Mathlib.Omega.{arith}
-use mathlib.Core.Path.{_≡_, _∙_}
+use mathlib.Core.Path.{_≡_, sym, _∙_}
 use borrow.Author.Needs.{needs}
 use Rattle.desk.proofs.checking.tree_fault.Statement.{statement}
 use Rattle.desk.proofs.checking.tree_fault.Tie as tie
 
-load-requires : tie.Need-load-requires
-load-requires c κs = search needs
+copy-in-requires : tie.Need-copy-in-requires
+copy-in-requires c κs = search needs
 
 unary-starts-requires : tie.Need-unary-starts-requires
 unary-starts-requires c κs = search needs
@@ -32,9 +32,9 @@ steps-fault-requires c κs =
     let s = c .before .before .before .before .before .before .before .before .before .before .before .before .before .args in
     let n = netOf (s .top) (s .vars) (s .functions) (s .sizes .now) (s .scopes .now) in
     let word = wordAt (s .bytes .now) in
-    let room : length (c .before .before .before .before .before .before .before .before .load .last .0) ≡ length (s .work .now) = omega (arith, c .before .before .before .before .before .before .before .before .load .kept .0) in (
-      record { ready = c .before .before .before .before .before .before .before .before .before .before .before .before .before .pre .0 .0; first = λ v l. c .before .before .before .before .before .unary-starts .ensures v l ∙ first-starts (s .top) (s .vars) (s .functions) (s .sizes .now) (s .scopes .now) (c .before .before .before .before .before .before .before .before .before .before .before .before .before .pre .0 .0 .scoped) v l; many-is = c .before .before .before .before .before .before .before .before .before .before .before .before .before .pre .0 .1; roomy = omega (arith, c .before .before .before .before .before .before .before .before .before .before .before .before .before .pre .0 .2); held-whole = c .before .before .before .before .before .before .before .before .before .before .before .before .before .pre .0 .3 },
-      (λ j l. rw (c .before .before .before .before .before .before .before .before .load .ensures) (copied-at (s .held .now) (s .work .now) (s .many) j (c .before .before .before .before .before .before .before .before .before .before .before .before .before .pre .0 .3) l), omega (arith, c .before .before .before .before .before .before .before .before .before .before .before .before .before .pre .1, c .before .before .before .before .values-of .ensures, c .before .before .word-at2 .ensures)),
+    let room : length (c .before .before .before .before .before .before .before .before .copy-in .last .0) ≡ length (s .work .now) = omega (arith, c .before .before .before .before .before .before .before .before .copy-in .kept .0) in (
+      record { ready = c .before .before .before .before .before .before .before .before .before .before .before .before .before .pre .0 .0; first = λ v l. c .before .before .before .before .before .unary-starts .ensures v l ∙ sym (start-first (s .top) (s .vars) (s .functions) (s .sizes .now) (s .scopes .now) (c .before .before .before .before .before .before .before .before .before .before .before .before .before .pre .0 .0 .scoped) v l); many-is = c .before .before .before .before .before .before .before .before .before .before .before .before .before .pre .0 .1; roomy = omega (arith, c .before .before .before .before .before .before .before .before .before .before .before .before .before .pre .0 .2); held-whole = c .before .before .before .before .before .before .before .before .before .before .before .before .before .pre .0 .3 },
+      (λ j l. rw (c .before .before .before .before .before .before .before .before .copy-in .ensures) (copied-at (s .held .now) (s .work .now) (s .many) j (c .before .before .before .before .before .before .before .before .before .before .before .before .before .pre .0 .3) l), omega (arith, c .before .before .before .before .before .before .before .before .before .before .before .before .before .pre .1, c .before .before .before .before .values-of .ensures, c .before .before .word-at2 .ensures)),
     )
 
 same-length : tie.Need-same-length
@@ -47,7 +47,7 @@ pub tree-fault-spec : {M : Type 1} → statement M
 tree-fault-spec =
     tie.close
     (tie.spec
-    load-requires
+    copy-in-requires
     unary-starts-requires
     values-of-requires
     add-from

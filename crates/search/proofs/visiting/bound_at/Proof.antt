@@ -6,6 +6,7 @@ use borrow.Author.Needs.{needs}
 use Rattle.costs.specs.Networks.{netOf}
 use Rattle.shifts.specs.Nodes.{liveIn}
 use Rattle.costs.proofs.RowLaws.{scoped-sound}
+use Rattle.shifts.proofs.TableLaws.{copied-costs}
 use Rattle.search.proofs.VisitLaws.{bound-constant, bound-shifts}
 use Rattle.search.proofs.visiting.bound_at.Statement.{statement}
 use Rattle.search.proofs.visiting.bound_at.Tie as tie
@@ -30,7 +31,7 @@ returns c =
     let n = netOf (s .top) (s .vars) (s .functions) (s .sizes .now) (s .scopes .now) in
     let live = liveIn (s .sizes .now) (s .node .now) in
     let good = scoped-sound (s .top) (s .vars) (s .functions) (s .sizes .now) (s .scopes .now) (c .before .before .before .before .before .before .before .before .before .before .before .before .before .before .before .pre .0 .ready .scoped) in
-    let copied = c .before .before .before .before .before .before .before .before .before .before .copy-in .ensures (s .constant) in
+    let copied = copied-costs (s .held .now) (s .work .now) (c .before .before .before .before .before .before .before .before .before .before .copy-in .last .0) (s .many) (s .constant) (c .before .before .before .before .before .before .before .before .before .before .before .before .before .before .before .pre .1 .2) (c .before .before .before .before .before .before .before .before .before .before .copy-in .ensures) in
     (c .before .before .before .before .pass-noting .ensures .0, bound-constant n good live (s .constant) (s .many) (s .held .now) (s .work .now) (c .before .before .before .before .before .before .before .before .before .before .copy-in .last .0) (c .before .before .before .before .before .before .before .before .before .before .before .before .before .before .before .pre .1 .1) copied (c .before .before .before .before .pass-noting .result .constant) (c .before .before .before .before .pass-noting .last .0) (c .before .before .before .before .pass-noting .ensures .1), λ e. c .before .before .before .before .pass-noting .ensures .2 ∙ bound-shifts n good live (s .constant) (s .many) (s .held .now) (s .work .now) (c .before .before .before .before .before .before .before .before .before .before .copy-in .last .0) (c .before .before .before .before .before .before .before .before .before .before .before .before .before .before .before .pre .1 .1) copied)
 
 pass-over-requires : tie.Need-pass-over-requires
@@ -47,7 +48,7 @@ returns-2 c =
     let n = netOf (s .top) (s .vars) (s .functions) (s .sizes .now) (s .scopes .now) in
     let live = liveIn (s .sizes .now) (s .node .now) in
     let good = scoped-sound (s .top) (s .vars) (s .functions) (s .sizes .now) (s .scopes .now) (c .before .before .before .before .before .before .before .before .before .before .before .before .pre .0 .ready .scoped) in
-    let copied = c .before .before .before .before .before .before .before .copy-in .ensures (s .constant) in
+    let copied = copied-costs (s .held .now) (s .work .now) (c .before .before .before .before .before .before .before .copy-in .last .0) (s .many) (s .constant) (c .before .before .before .before .before .before .before .before .before .before .before .before .pre .1 .2) (c .before .before .before .before .before .before .before .copy-in .ensures) in
     (omega arith, bound-constant n good live (s .constant) (s .many) (s .held .now) (s .work .now) (c .before .before .before .before .before .before .before .copy-in .last .0) (c .before .before .before .before .before .before .before .before .before .before .before .before .pre .1 .1) copied (c .before .before .pass-over .result) (c .before .before .pass-over .last .0) (c .before .before .pass-over .ensures), λ e. absurd (let z : _≡_ {A = ℕ} 0 1 = cc (c .before .before .before .before .if1 .left) in omega arith))
 
 pub bound-at-spec : {M : Type 1} → statement M

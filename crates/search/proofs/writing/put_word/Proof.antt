@@ -3,7 +3,8 @@ use native.Mathlib.Omega.{arith}
 use lib.ListN.{length-set}
 use borrow.Author.Needs.{needs}
 use Rattle.records.specs.Words.{wordBytes, bytesTo}
-use Rattle.search.proofs.SpliceLaws.{eight, spliced-sets, bytesTo-length}
+use Rattle.records.proofs.WordLaws.{bytesTo-many}
+use Rattle.search.proofs.SpliceLaws.{eight, spliced-sets}
 use Rattle.search.proofs.writing.put_word.Statement.{statement}
 use Rattle.search.proofs.writing.put_word.Tie as tie
 
@@ -80,7 +81,7 @@ same-length : tie.Need-same-length
 same-length c = simp length-set
 
 returns : tie.Need-returns
-returns c = let s = c .args in eight (s .out .now) (s .at) _ _ _ _ _ _ _ _ ∙ spliced-sets (s .at) (bytesTo wordBytes (s .x)) (s .out .now) (omega (arith, bytesTo-length wordBytes (s .x)))
+returns c = let s = c .args in eight (s .out .now) (s .at) _ _ _ _ _ _ _ _ ∙ spliced-sets (s .at) (bytesTo wordBytes (s .x)) (s .out .now) (omega (arith, bytesTo-many wordBytes (s .x)))
 
 pub put-word-spec : {M : Type 1} → statement M
 put-word-spec =

@@ -7,7 +7,6 @@ use borrow.Author.Needs.{needs}
 use Rattle.shifts.proofs.MoveLaws.{tried-less, tried-enough, extend-not, legal-extend, place-least, exchange-may, unary-roomy, extends}
 use Rattle.shifts.proofs.PartLaws.{roomier}
 use Rattle.shifts.specs.declared.moves.Move.the-variants.{Extend}
-use Rattle.costs.proofs.TestLaws.{so}
 use Rattle.shifts.specs.Nodes.{liveIn}
 use Rattle.costs.specs.Networks.{netOf}
 use Rattle.costs.specs.Net.{costsOf}

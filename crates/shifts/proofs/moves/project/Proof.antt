@@ -1,10 +1,9 @@
 use Prim.Native.Nat.{ℕ, _+_}
-use mathlib.Core.Path.{refl, sym, ap, _∙_}
+use mathlib.Core.Path.{refl, ap, _∙_}
 use native.Mathlib.Omega.{arith}
 use lib.ListN.{length}
 use borrow.Author.Tests.{not-true, not-false}
 use borrow.Author.Needs.{needs}
-use Rattle.costs.proofs.TestLaws.{so}
 use Rattle.shifts.proofs.MoveLaws.{tried-not, tried-less, tried-enough, legal-project, block-least, exchange-may, unary-roomy, projects}
 use Rattle.shifts.proofs.PartLaws.{roomier}
 use Rattle.shifts.specs.declared.moves.Move.the-variants.{Project}

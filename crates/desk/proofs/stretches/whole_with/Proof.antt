@@ -1,8 +1,8 @@
 use Rattle.desk.proofs.ShowingLaws.{whole-yes, whole-no}
 use mathlib.Core.Path.{sym, _∙_}
 use borrow.Author.Needs.{needs}
-use Rattle.desk.proofs.showing.whole_with.Statement.{statement}
-use Rattle.desk.proofs.showing.whole_with.Tie as tie
+use Rattle.desk.proofs.stretches.whole_with.Statement.{statement}
+use Rattle.desk.proofs.stretches.whole_with.Tie as tie
 
 judge-requires : tie.Need-judge-requires
 judge-requires c κs = search needs

@@ -1,20 +1,21 @@
-use Prim.Native.Nat.{_≤_, _-_}
-use mathlib.Core.Path.{_≡_, refl}
+use Rattle.shifts.proofs.TableLaws.{copied-more}
 use native.Mathlib.Omega.{arith}
-use lib.ListN.{length, getD, length-set}
+use lib.ListN.{length, take, drop, length-set}
+use mathlib.Core.List.{_++_}
+use mathlib.Core.Path.{_≡_, refl}
+use Prim.Native.Nat.{_≤_, _<_, _-_}
 use borrow.Author.Needs.{needs}
-use Rattle.shifts.proofs.PlaceLaws.{costs-same, Stored, stored-none, stored-more}
-use Rattle.shifts.proofs.copy_in.Statement.{statement}
-use Rattle.shifts.proofs.copy_in.Tie as tie
+use Rattle.shifts.proofs.tables.copy_in.Statement.{statement}
+use Rattle.shifts.proofs.tables.copy_in.Tie as tie
 
 abbrev Inv-loop : tie.InvT-loop
-Inv-loop table₀ from many j₀ table j = (j ≤ many) × (length table ≡ length table₀) × Stored (λ i. getD from i 0) j table₀ table
+Inv-loop table₀ from many j₀ table j = (j ≤ many) × (length table ≡ length table₀) × (table ≡ take j from ++ drop j table₀)
 
 abbrev μ-loop : tie.MeasureT-loop
 μ-loop table₀ from many j₀ table j = many - j
 
 loop-holds : tie.Need-loop-holds Inv-loop μ-loop
-loop-holds c = (search needs, search needs, stored-none (λ j. getD (c .args .from .now) j 0) (c .args .table .now))
+loop-holds c = (search needs, search needs, refl)
 
 mul-table : tie.Need-mul-table Inv-loop μ-loop
 mul-table c = search needs
@@ -36,19 +37,15 @@ loop-less c = search needs
 
 loop-again : tie.Need-loop-again Inv-loop μ-loop
 loop-again c =
-    let k = c .before .before in
-    let s = k .before .args in
-    (search needs, simp length-set (k .loop .inv .1), stored-more (λ j. getD (s .from .now) j 0) (k .loop .j) _ (s .table .now) (k .loop .table) (omega arith) refl (k .loop .inv .2))
+    let h : c .before .before .loop .j < length (c .before .before .before .args .table .now) = omega arith in
+    let g : c .before .before .loop .j < length (c .before .before .before .args .from .now) = omega arith in
+    (search needs, simp length-set (omega arith), rw (c .before .before .loop .inv .2) (copied-more (c .before .before .before .args .from .now) (c .before .before .before .args .table .now) (c .before .before .loop .j) h g))
 
 same-length : tie.Need-same-length Inv-loop μ-loop
 same-length c = search needs
 
 returns : tie.Need-returns Inv-loop μ-loop
-returns c =
-    let k = c .before in
-    let s = k .before .args in
-    let e : k .loop .j ≡ s .many = omega arith in
-    λ z. costs-same _ _ refl (rw e at (k .loop .inv .2))
+returns c = let e : c .before .before .args .many ≡ c .before .loop .j = omega arith in rw e (c .before .loop .inv .2)
 
 pub copy-in-spec : {M : Type 1} → statement M
 copy-in-spec =

@@ -1,8 +1,8 @@
 use mathlib.Core.Path.{_∙_}
 use borrow.Author.Needs.{needs}
 use Rattle.shifts.proofs.PartLaws.{child-here, child-else}
-use Rattle.shifts.proofs.parts.child_span.Statement.{statement}
-use Rattle.shifts.proofs.parts.child_span.Tie as tie
+use Rattle.shifts.proofs.blocks.child_span.Statement.{statement}
+use Rattle.shifts.proofs.blocks.child_span.Tie as tie
 
 byte-at-requires : tie.Need-byte-at-requires
 byte-at-requires c κs = search needs

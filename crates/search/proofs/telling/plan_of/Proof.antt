@@ -8,8 +8,8 @@ use Rattle.search.proofs.ResultLaws.{plan-turn, plan-done}
 use Rattle.costs.specs.Limits.{varsMost}
 use Rattle.search.specs.Cheapest.{valueIn}
 use Rattle.search.specs.FirstSearch.{listTo}
-use Rattle.search.proofs.results.plan_of.Statement.{statement}
-use Rattle.search.proofs.results.plan_of.Tie as tie
+use Rattle.search.proofs.telling.plan_of.Statement.{statement}
+use Rattle.search.proofs.telling.plan_of.Tie as tie
 
 abbrev Inv-loop : tie.InvT-loop
 Inv-loop plan count choice₀ v₀ choice v = (v ≤ count) × (choice ≡ listTo v (valueIn plan) ++ replicate (varsMost - v) 0)

@@ -5,8 +5,8 @@ use borrow.Author.Needs.{needs}
 use Rattle.shifts.proofs.PartLaws.{holds-two, holds-three}
 use Rattle.costs.proofs.RowLaws.{met}
 use Rattle.costs.specs.Networks.{inRow}
-use Rattle.shifts.proofs.parts.function_block.Statement.{statement}
-use Rattle.shifts.proofs.parts.function_block.Tie as tie
+use Rattle.shifts.proofs.blocks.function_block.Statement.{statement}
+use Rattle.shifts.proofs.blocks.function_block.Tie as tie
 
 row-at-requires : tie.Need-row-at-requires
 row-at-requires c κs = search needs

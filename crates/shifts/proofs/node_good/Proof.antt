@@ -5,8 +5,8 @@ use borrow.Author.Count.{below-more}
 use borrow.Author.Needs.{needs}
 use Rattle.shifts.proofs.NodeLaws.{by-bytes}
 use Rattle.costs.proofs.TestLaws.{yes-by, no-by}
-use Rattle.shifts.proofs.nodes.node_good.Statement.{statement}
-use Rattle.shifts.proofs.nodes.node_good.Tie as tie
+use Rattle.shifts.proofs.node_good.Statement.{statement}
+use Rattle.shifts.proofs.node_good.Tie as tie
 
 abbrev Inv-loop : tie.InvT-loop
 Inv-loop sizes node vars v₀ v = (v ≤ vars) × ((w : ℕ) → w < v → getD node w 0 ≤ getD sizes w 0)

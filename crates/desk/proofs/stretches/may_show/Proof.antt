@@ -2,8 +2,8 @@ use Rattle.desk.specs.Showing.{mayShow}
 use borrow.Author.Tests.{not-true, not-false, le-ltb, lt-ltb}
 use mathlib.Core.Path.{sym, _∙_}
 use borrow.Author.Needs.{needs}
-use Rattle.desk.proofs.showing.may_show.Statement.{statement}
-use Rattle.desk.proofs.showing.may_show.Tie as tie
+use Rattle.desk.proofs.stretches.may_show.Statement.{statement}
+use Rattle.desk.proofs.stretches.may_show.Tie as tie
 
 whole-with-requires : tie.Need-whole-with-requires
 whole-with-requires c κs = search needs

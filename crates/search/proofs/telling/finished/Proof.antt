@@ -1,8 +1,8 @@
 use native.Mathlib.Omega.{arith}
 use borrow.Author.Needs.{needs}
 use Rattle.search.proofs.SpliceLaws.{at-most}
-use Rattle.search.proofs.results.finished.Statement.{statement}
-use Rattle.search.proofs.results.finished.Tie as tie
+use Rattle.search.proofs.telling.finished.Statement.{statement}
+use Rattle.search.proofs.telling.finished.Tie as tie
 
 value-count-requires : tie.Need-value-count-requires
 value-count-requires c κs = search needs
