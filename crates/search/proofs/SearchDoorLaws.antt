@@ -24,7 +24,6 @@ use Rattle.shifts.specs.Parts.{Laid}
 use Rattle.shifts.proofs.TableLaws.{zero-at}
 use Rattle.shifts.proofs.NodeLaws.{by-bytes}
 use Rattle.shifts.proofs.DoorLaws.{laid-by}
-use Rattle.records.specs.declared.steps.Step.{Step}
 use Rattle.records.specs.Words.{bytesOf}
 use Rattle.search.specs.declared.results.Searched.{Searched}
 use Rattle.search.specs.declared.visiting.Progress.{Progress}
@@ -33,7 +32,7 @@ use Rattle.search.specs.Engines.{State, begin}
 use Rattle.search.specs.FirstSearch.{listTo, budget}
 use Rattle.search.specs.Splicing.{headerBytes, valuesOf, recordOf, Written, Finished}
 use Rattle.search.specs.Visiting.{Fixes, Meets, visited}
-use Rattle.search.specs.Doors.{Left, beginning, refusedSearch, finishedSearch, recordBytes, refusedLeft, finishedLeft, searchOf, searchLeaves}
+use Rattle.search.specs.Doors.{Left, beginning, refusedSearch, finishedSearch, recordBytes, refusedLeft, finishedLeft, endedLeft, searchOf, searchLeaves}
 use Rattle.search.proofs.FirstSearchRight.{first-answer}
 use Rattle.search.proofs.SpliceLaws.{values-size}
 
@@ -70,14 +69,8 @@ done-meets net held out o plan asked limit b x e f =
 pub spot-there : (asked : Bool) (vars : ℕ) (x : Progress) (plan o : List ℕ) (s : State) → Meets asked vars x plan o s → asked ≡ true → x .spot .full ≡ false → (headerBytes ≤ x .spot .at) × (x .spot .at ≤ length o)
 spot-there asked vars x plan o s m wanted f = let k = m .written wanted .there f in (omega (arith, k .place), k .fits)
 
-pub zeros-all : (o out u : List ℕ) → length o ≡ length out → u ≡ take 0 o ++ replicate (length o - 0) 0 → u ≡ replicate (length out) 0
-zeros-all o out u l e = let z : length o - 0 ≡ length out = omega (arith, l) in e ∙ ap (λ (m : ℕ). replicate m 0) z
-
-pub finished-as : (vars cost k : ℕ) (plan o out u : List ℕ) (steps : List Step) (b fits : Bool) → b ≡ ltb cost k → length o ≡ length out → Finished (bytesOf (recordOf vars b cost (valuesOf vars b plan) steps)) (length o) fits u
-    → Finished (bytesOf (recordOf vars (ltb cost k) cost (valuesOf vars (ltb cost k) plan) steps)) (length out) fits u
-finished-as vars cost k plan o out u steps b fits e l h =
-    subst (λ (m : ℕ). Finished (bytesOf (recordOf vars (ltb cost k) cost (valuesOf vars (ltb cost k) plan) steps)) m fits u) l
-    (subst (λ (c : Bool). Finished (bytesOf (recordOf vars c cost (valuesOf vars c plan) steps)) (length o) fits u) e h)
+pub zeros-all : (o u : List ℕ) → u ≡ take 0 o ++ replicate (length o - 0) 0 → u ≡ replicate (length o) 0
+zeros-all o u e = let z : length o - 0 ≡ length o = omega arith in e ∙ ap (λ (m : ℕ). replicate m 0) z
 
 -- a plan of all variables was found
 whole-plan : (vars : ℕ) (found : Bool) (plan q : List ℕ) → q ≡ valuesOf vars found plan → length q ≡ vars → q ≡ listTo vars (valueIn plan)
@@ -100,52 +93,62 @@ module _ (n : Net) (room : ℕ) (s : State) (fits : Bool) (u : List ℕ) (h : Fi
   finished-long : fits ≡ false → _≡_ {A = Left} (record { result = refusedSearch LongRecord; out = u }) (finishedLeft n true room s)
   finished-long f = ap (λ (o : List ℕ). record { result = refusedSearch LongRecord; out = o }) (rw f at (h .holds)) ∙ (rw f at chosen)
 
+-- what is told of a search that came so far
+module _ (n : Net) (asked : Bool) (s : State) (x : Progress) (plan o : List ℕ) (m : Meets asked (n .vars) x plan o s) where
+  pub tells-over : (r : Searched) (u : List ℕ) → r ≡ refusedSearch OverBudget → x .over ≡ true → u ≡ replicate (length o) 0 → _≡_ {A = Left} (record { result = r; out = u }) (endedLeft n asked (length o) (s .ended) s)
+  tells-over r u e over z = rw (m .ended, over, e, z)
+
+  module _ (goes : x .over ≡ false) (found : Bool) (is : found ≡ ltb (x .best) (n .cap)) (plan-is : s .ended ≡ 0 → s .plan ≡ valuesOf (n .vars) (ltb (x .best) (n .cap)) plan) where
+    goes-on : s .ended ≡ 0
+    goes-on = rw goes at (m .ended)
+
+    its-plan : s .plan ≡ valuesOf (n .vars) found plan
+    its-plan = rw is (plan-is goes-on)
+
+    leaves-finished : (b : Bool) → asked ≡ b → finishedLeft n b (length o) s ≡ endedLeft n asked (length o) (s .ended) s
+    leaves-finished b a = rw (goes-on, a)
+
+    -- the result as the code hands it back
+    told-result : (r : Searched) → r ≡ finishedSearch (valuesOf (n .vars) found plan) (x .best) (x .nodes) → r ≡ finishedSearch (s .plan) (s .best) (s .count)
+    told-result r e = e ∙ rw (its-plan, ← m .best, ← m .nodes)
+
+    pub tells-unrecorded : (r : Searched) (u : List ℕ) → r ≡ finishedSearch (valuesOf (n .vars) found plan) (x .best) (x .nodes) → asked ≡ false → u ≡ replicate (length o) 0
+        → _≡_ {A = Left} (record { result = r; out = u }) (endedLeft n asked (length o) (s .ended) s)
+    tells-unrecorded r u e unasked z = rw z (ap (λ (q : Searched). record { result = q; out = replicate (length o) 0 }) (told-result r e) ∙ leaves-finished false unasked)
+
+    module _ (wanted : asked ≡ true) (fits : Bool) (u : List ℕ) (h : Finished (bytesOf (recordOf (n .vars) found (x .best) (valuesOf (n .vars) found plan) (s .steps))) (length o) fits u) where
+      record-is : Finished (recordBytes n s) (length o) fits u
+      record-is = let e : recordBytes n s ≡ bytesOf (recordOf (n .vars) found (x .best) (valuesOf (n .vars) found plan) (s .steps)) = rw (its-plan, ← m .best, is) in subst (λ (b : List ℕ). Finished b (length o) fits u) (sym e) h
+
+      pub tells-recorded : (r : Searched) → r ≡ finishedSearch (valuesOf (n .vars) found plan) (x .best) (x .nodes) → fits ≡ true → _≡_ {A = Left} (record { result = r; out = u }) (endedLeft n asked (length o) (s .ended) s)
+      tells-recorded r e f = ap (λ (q : Searched). record { result = q; out = u }) (told-result r e) ∙ finished-fits n (length o) s fits u record-is f ∙ leaves-finished true wanted
+
+      pub tells-long : (r : Searched) → r ≡ refusedSearch LongRecord → fits ≡ false → _≡_ {A = Left} (record { result = r; out = u }) (endedLeft n asked (length o) (s .ended) s)
+      tells-long r e f = ap (λ (q : Searched). record { result = q; out = u }) e ∙ finished-long n (length o) s fits u record-is f ∙ leaves-finished true wanted
+
 module _ (net : Network) (held work out : List ℕ) (asked : Bool) (limit : ℕ) where
   abbrev room : ℕ
   room = min (length held) (length work)
 
-  pub search-refused : (a : Answer) (u : List ℕ) → Refused a ≡ judged net held room → u ≡ replicate (length out) 0 → _≡_ {A = Left} (record { result = refusedSearch a; out = u }) (searchLeaves net held work out asked limit)
+  abbrev last : State
+  last = searchOf net held limit
+
+  pub search-refused : (a : Answer) (r : Searched) (u : List ℕ) → Refused a ≡ judged net held room → r ≡ refusedSearch a → u ≡ replicate (length out) 0 → _≡_ {A = Left} (record { result = r; out = u }) (searchLeaves net held work out asked limit)
   unfolding searchLeaves
-  search-refused a u e z = rw (← e, z)
+  search-refused a r u e q z = rw (← e, q, z)
 
   -- the search was made
-  module _ (many : ℕ) (e : Entries many ≡ judged net held room) (x : Progress) (plan o : List ℕ) (m : Meets asked (net .vars) x plan o (searchOf net held limit)) where
-    abbrev values : List ℕ
-    values = valuesOf (net .vars) (ltb (x .best) (net .top)) plan
+  module _ (many : ℕ) (e : Entries many ≡ judged net held room) where
+    pub plan-is : (x : Progress) (plan o : List ℕ) → Meets asked (net .vars) x plan o last → last .ended ≡ 0 → last .plan ≡ valuesOf (net .vars) (ltb (x .best) (net .top)) plan
+    unfolding searchOf
+    plan-is x plan o m stopped =
+        let passed = judged-passed net held room many e .network in
+        let sound = scoped-sound (net .top) (net .vars) (net .functions) (net .sizes) (net .scopes) (network-ready net held passed .scoped) in
+        elim (first-answer (stands net) sound (costsOf (net .constant) held) (passed .constant) (passed .top-some) (budget limit) stopped) [
+          | inl h ↦ h .plan ∙ rw (m .best, h .best, le-ltb (net .top) (net .top) (omega arith))
+          | inr h ↦ whole-plan (net .vars) (x .found) plan (searchOf net held limit .plan) (m .plan) (h .whole) ∙ rw (m .best, lt-ltb _ (net .top) (h .below))
+        ]
 
-    pub search-over : (u : List ℕ) → x .over ≡ true → u ≡ replicate (length out) 0 → _≡_ {A = Left} (record { result = refusedSearch OverBudget; out = u }) (searchLeaves net held work out asked limit)
+    pub search-told : (l : Left) (o : List ℕ) → length o ≡ length out → l ≡ endedLeft (stands net) asked (length o) (last .ended) last → l ≡ searchLeaves net held work out asked limit
     unfolding searchLeaves
-    search-over u over z = rw (← e, m .ended, over, z)
-
-    module _ (goes : x .over ≡ false) where
-      plan-is : searchOf net held limit .plan ≡ values
-      unfolding searchOf
-      plan-is =
-          let passed = judged-passed net held room many e .network in
-          let sound = scoped-sound (net .top) (net .vars) (net .functions) (net .sizes) (net .scopes) (network-ready net held passed .scoped) in
-          let stopped : searchOf net held limit .ended ≡ 0 = rw goes at (m .ended) in
-          elim (first-answer (stands net) sound (costsOf (net .constant) held) (passed .constant) (passed .top-some) (budget limit) stopped) [
-            | inl h ↦ h .plan ∙ rw (m .best, h .best, le-ltb (net .top) (net .top) (omega arith))
-            | inr h ↦ whole-plan (net .vars) (x .found) plan (searchOf net held limit .plan) (m .plan) (h .whole) ∙ rw (m .best, lt-ltb _ (net .top) (h .below))
-          ]
-
-      result-is : finishedSearch values (x .best) (x .nodes) ≡ finishedSearch (searchOf net held limit .plan) (searchOf net held limit .best) (searchOf net held limit .count)
-      result-is = rw (plan-is, ← m .best, ← m .nodes)
-
-      leaves-finished : (b : Bool) → asked ≡ b → finishedLeft (stands net) b (length out) (searchOf net held limit) ≡ searchLeaves net held work out asked limit
-      unfolding searchLeaves
-      leaves-finished b a = rw (← e, m .ended, goes, a)
-
-      pub search-unrecorded : (u : List ℕ) → asked ≡ false → u ≡ replicate (length out) 0 → _≡_ {A = Left} (record { result = finishedSearch values (x .best) (x .nodes); out = u }) (searchLeaves net held work out asked limit)
-      search-unrecorded u unasked z = rw z (ap (λ (r : Searched). record { result = r; out = replicate (length out) 0 }) result-is ∙ leaves-finished false unasked)
-
-      module _ (wanted : asked ≡ true) (fits : Bool) (u : List ℕ) (h : Finished (bytesOf (recordOf (net .vars) (ltb (x .best) (net .top)) (x .best) values (searchOf net held limit .steps))) (length out) fits u) where
-        record-is : Finished (recordBytes (stands net) (searchOf net held limit)) (length out) fits u
-        record-is = let e : recordBytes (stands net) (searchOf net held limit) ≡ bytesOf (recordOf (net .vars) (ltb (x .best) (net .top)) (x .best) values (searchOf net held limit .steps)) = rw (plan-is, ← m .best) in subst (λ (b : List ℕ). Finished b (length out) fits u) (sym e) h
-
-        pub search-recorded : fits ≡ true → _≡_ {A = Left} (record { result = finishedSearch values (x .best) (x .nodes); out = u }) (searchLeaves net held work out asked limit)
-        search-recorded f =
-            ap (λ (r : Searched). record { result = r; out = u }) result-is ∙ finished-fits (stands net) (length out) (searchOf net held limit) fits u record-is f ∙ leaves-finished true wanted
-
-        pub search-long : fits ≡ false → _≡_ {A = Left} (record { result = refusedSearch LongRecord; out = u }) (searchLeaves net held work out asked limit)
-        search-long f = finished-long (stands net) (length out) (searchOf net held limit) fits u record-is f ∙ leaves-finished true wanted
+    search-told l o same h = rw (← e) (h ∙ ap (λ (k : ℕ). endedLeft (stands net) asked k (last .ended) last) same)

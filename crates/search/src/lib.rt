@@ -12,13 +12,10 @@ ghost use Rattle.search.specs.Doors.{Left, searchLeaves};
 use crate::noting::NOTES;
 use crate::results::Searched;
 use crate::telling::begin;
-use crate::telling::below;
-use crate::telling::finished;
 use crate::telling::refused;
+use crate::telling::tell;
 use crate::visiting::visit;
 use crate::writing::clear_from;
-use crate::writing::write_record;
-use costs::answers::Answer;
 use costs::judging::Judged;
 use costs::judging::judge;
 use costs::limits::VARS;
@@ -85,18 +82,5 @@ pub fn search(
         start,
     );
     clear(work);
-    if done.over {
-        clear_from(out, 0);
-        return refused(Answer::OverBudget);
-    }
-    let found = below(done.best, net.top);
-    if !asked {
-        clear_from(out, 0);
-        return finished(&plan, net.vars, found, done.best, done.nodes);
-    }
-    let fits = write_record(out, &plan, done.spot, net.vars, found, done.best);
-    if !fits {
-        return refused(Answer::LongRecord);
-    }
-    finished(&plan, net.vars, found, done.best, done.nodes)
+    tell(out, &plan, done, net.top, net.vars, asked)
 }
