@@ -2,7 +2,7 @@
 use Prim.Native.Nat.{ℕ, zero, suc, _+_, _-_, _*_, _^_, _≤_, _<_, min}
 use mathlib.Core.Path.{_≡_, refl, sym, ap, _∙_, subst, fun-ext}
 use mathlib.Core.Bool.{Bool, true, false, cond}
-use mathlib.Core.List.{List, [], _∷_, _++_}
+use mathlib.Core.List.{List, _++_}
 use native.Mathlib.Omega.{arith}
 use native.Mathlib.Nat.{zero-mul}
 use native.Mathlib.Decide.{decLt}
@@ -11,20 +11,18 @@ use lib.ListN.{length, getD, take, drop, replicate, length-append, List·getD-ap
 use lib.Seq.{take-at}
 use borrow.Author.Tests.{leb-true}
 use Rattle.costs.specs.declared.networks.Network.{Network}
-use Rattle.costs.specs.declared.answers.Answer.{Answer}
-use Rattle.costs.specs.declared.answers.Answer.the-variants.{Done, LongText, BadToken, OutOfRange, Unfitting, ListedTwice, TextAfter, ShortTable, NotNetwork, BadPlan, Illegal, OverBudget, LongRecord, BrokenRule}
+use Rattle.costs.specs.declared.answers.Answer.the-variants.{Done, LongRecord}
 use Rattle.costs.specs.declared.judging.Judged.{Judged}
 use Rattle.costs.specs.declared.judging.Judged.the-variants.{Entries, Refused}
 use Rattle.costs.specs.Limits.{varsMost, sizeMost, functionsMost}
 use Rattle.costs.specs.Answers.{numberOf}
-use Rattle.costs.specs.Range.{sumTo}
-use Rattle.costs.specs.Net.{Net, Costs, All, entries, costsOf}
+use Rattle.costs.specs.Net.{Net, Costs, All, costsOf}
 use Rattle.costs.specs.Networks.{stands}
 use Rattle.costs.specs.Judging.{judged}
 use Rattle.costs.proofs.RangeLaws.{sumTo-same}
 use Rattle.costs.proofs.NetLaws.{All-at}
 use Rattle.costs.proofs.RowLaws.{scoped-sound}
-use Rattle.costs.proofs.JudgeLaws.{judged-passed, network-ready}
+use Rattle.costs.proofs.JudgeLaws.{judged-passed, network-ready, judged-refuses}
 use Rattle.shifts.proofs.PassLength.{scoped-within}
 use Rattle.records.specs.Words.{wordBytes, wordAt, bytesOf}
 use Rattle.records.specs.Steps.{spell}
@@ -32,32 +30,15 @@ use Rattle.records.specs.Records.{headerWords, recordWords, KeepsRules, KeptBy}
 use Rattle.records.proofs.WordLaws.{bytesOf-many, words-back}
 use Rattle.records.proofs.StepLaws.{spell-many}
 use Rattle.desk.specs.Checking.{checked}
-use Rattle.desk.proofs.CheckIsTheRules.{Lent, judged-refuses, kept-accepted}
+use Rattle.desk.proofs.CheckIsTheRules.{kept-accepted}
 use Rattle.search.specs.Engines.{State}
 use Rattle.search.specs.FirstSearch.{budget}
 use Rattle.search.specs.declared.results.Searched.{Searched}
-use Rattle.search.specs.Doors.{Left, recordBytes, finishedSearch, refusedLeft, finishedLeft, endedLeft, judgedLeft, searchOf, searchLeaves}
+use Rattle.search.specs.Doors.{Left, recordBytes, finishedSearch, refusedLeft, endedLeft, judgedLeft, searchOf, searchLeaves}
 use Rattle.search.proofs.FirstSearchRight.{first-answer, first-keeps}
 use Rattle.agreed.specs.Filed.{Filed, sizeTold}
 use Rattle.agreed.proofs.RecordsExist.{words-small}
 use Rattle.agreed.proofs.WrittenRecords.{tells, written-keeps}
-
--- only success has the number 0
-pub done-said : (a : Answer) → numberOf a ≡ 0 → a ≡ Done
-done-said Done e = refl
-done-said LongText e = absurd (omega (arith, e))
-done-said (BadToken at) e = absurd (omega (arith, e))
-done-said (OutOfRange at) e = absurd (omega (arith, e))
-done-said (Unfitting at) e = absurd (omega (arith, e))
-done-said (ListedTwice at) e = absurd (omega (arith, e))
-done-said (TextAfter at) e = absurd (omega (arith, e))
-done-said ShortTable e = absurd (omega (arith, e))
-done-said NotNetwork e = absurd (omega (arith, e))
-done-said (BadPlan at) e = absurd (omega (arith, e))
-done-said Illegal e = absurd (omega (arith, e))
-done-said OverBudget e = absurd (omega (arith, e))
-done-said LongRecord e = absurd (omega (arith, e))
-done-said (BrokenRule at) e = absurd (omega (arith, e))
 
 -- the bytes of small words tell them, and nothing past their end
 bytes-tell : (ws : List ℕ) → All (λ w. w < 2 ^ 64) ws → (w : ℕ) → wordAt (bytesOf ws) w ≡ tells ws w

@@ -10,7 +10,7 @@ use borrow.Author.Tests.{le-leb, lt-leb}
 use lib.ListN.{length, getD}
 use Rattle.costs.specs.declared.networks.Network.{Network}
 use Rattle.costs.specs.declared.answers.Answer.{Answer}
-use Rattle.costs.specs.declared.answers.Answer.the-variants.{ShortTable, NotNetwork}
+use Rattle.costs.specs.declared.answers.Answer.the-variants.{Done, ShortTable, NotNetwork}
 use Rattle.costs.specs.declared.judging.Judged.{Judged}
 use Rattle.costs.specs.declared.judging.Judged.the-variants.{Entries, Refused}
 use Rattle.costs.specs.Limits.{varsMost, sizeMost, functionsMost, costMost, entriesMost}
@@ -229,3 +229,13 @@ judged-short net t room many h e l = rw (is-true (isNetwork net t) (by-parts net
 pub judged-entries : (net : Network) (t : List ℕ) (room many : ℕ) → Parts net t → many ≡ entries (stands net) → many ≤ room → Entries many ≡ judged net t room
 unfolding judged
 judged-entries net t room many h e l = rw (is-true (isNetwork net t) (by-parts net t .finds h), le-leb (entries (stands net)) room (rw e at l), e)
+
+-- a judge that refuses does so with a number of its own
+pub judged-refuses : (net : Network) (t : List ℕ) (room : ℕ) → judged net t room ≡ Refused Done → ⊥
+unfolding judged
+judged-refuses net t room e = go (isNetwork net t) (leb (entries (stands net)) room) e
+  where
+    go : (a b : Bool) → cond a (cond b (Entries (entries (stands net))) (Refused ShortTable)) (Refused NotNetwork) ≡ Refused Done → ⊥
+    go true true e = let z : _≡_ {A = ℕ} 0 1 = cc in omega arith
+    go true false e = let z : _≡_ {A = ℕ} 0 1 = cc in omega arith
+    go false b e = let z : _≡_ {A = ℕ} 0 1 = cc in omega arith

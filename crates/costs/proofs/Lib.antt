@@ -1,3 +1,4 @@
+pub mod AnswerLaws
 pub mod TestLaws
 pub mod RangeLaws
 pub mod CostLaws

@@ -130,3 +130,7 @@ firstTo-at (suc n) t l = go (ltb (firstTo n t) n) (ltb→lt (firstTo n t) n) (fi
 
 pub firstTo-some : (n : ℕ) (t : ℕ → Bool) (a : ℕ) → a < n → T (t a) → firstTo n t ≤ a
 firstTo-some n t a l h = elim (decLe (firstTo n t) a) [ yes q ↦ q | no q ↦ absurd (not-so (firstTo-below n t a (omega arith)) h) ]
+
+pub allTo-same : (n : ℕ) (t u : ℕ → Bool) → ((i : ℕ) → i < n → t i ≡ u i) → allTo n t ≡ allTo n u
+allTo-same zero t u h = refl
+allTo-same (suc n) t u h = rw (allTo-same n t u (λ i l. h i (omega arith)), h n (omega arith))

@@ -10,15 +10,15 @@ use lib.Dec.{T, leb, ltb, eqb}
 use lib.ListN.{length}
 use borrow.Author.Tests.{lt-ltb, ltb-true, not-false}
 use Rattle.costs.specs.declared.networks.Network.{Network}
-use Rattle.costs.specs.declared.answers.Answer.the-variants.{Done, ShortTable, NotNetwork}
+use Rattle.costs.specs.declared.answers.Answer.the-variants.{Done}
 use Rattle.costs.specs.declared.judging.Judged.{Judged}
 use Rattle.costs.specs.declared.judging.Judged.the-variants.{Entries, Refused}
 use Rattle.costs.specs.Net.{Net, Costs, IsPlan, costsOf, price, entries}
 use Rattle.costs.specs.Networks.{stands}
-use Rattle.costs.specs.Judging.{isNetwork, judged}
+use Rattle.costs.specs.Judging.{judged}
 use Rattle.costs.proofs.TestLaws.{Decides, by-leb, by-ltb, by-eqb, by-self, by-and, by-map}
 use Rattle.costs.proofs.RangeLaws.{firstTo-below, firstTo-none}
-use Rattle.costs.proofs.JudgeLaws.{IsNetwork, by-parts, by-network, judged-entries, judged-passed}
+use Rattle.costs.proofs.JudgeLaws.{IsNetwork, by-parts, by-network, judged-entries, judged-passed, judged-refuses}
 use Rattle.shifts.proofs.LegalTests.{by-legal}
 use Rattle.records.specs.declared.steps.Step.{Step}
 use Rattle.records.specs.declared.steps.Step.the-variants.{Branch, Shift, Close}
@@ -195,16 +195,6 @@ pub record Lent (net : Network) (held : List ℕ) (room : ℕ) : Type 0 where
   pub network : IsNetwork net held
   pub held-whole : entries (stands net) ≤ length held
   pub room-enough : entries (stands net) ≤ room
-
--- a judge that refuses does so with a number of its own
-pub judged-refuses : (net : Network) (t : List ℕ) (room : ℕ) → judged net t room ≡ Refused Done → ⊥
-unfolding judged
-judged-refuses net t room e = go (isNetwork net t) (leb (entries (stands net)) room) e
-  where
-    go : (a b : Bool) → cond a (cond b (Entries (entries (stands net))) (Refused ShortTable)) (Refused NotNetwork) ≡ Refused Done → ⊥
-    go true true e = let z : _≡_ {A = ℕ} 0 1 = cc in omega arith
-    go true false e = let z : _≡_ {A = ℕ} 0 1 = cc in omega arith
-    go false b e = let z : _≡_ {A = ℕ} 0 1 = cc in omega arith
 
 by-done : (f : Fault) → Decides (isNowhere f) (answerTo f ≡ Done)
 unfolding isNowhere

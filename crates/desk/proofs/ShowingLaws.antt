@@ -1,11 +1,12 @@
 -- Laws of the shown part. Assumes nothing.
 use Prim.Native.Nat.{ℕ, _+_, _-_, _≤_, _<_}
-use mathlib.Core.Path.{_≡_, refl}
-use mathlib.Core.Bool.{Bool, true, false, cond, _&&_}
+use mathlib.Core.Path.{_≡_, refl, sym, _∙_}
+use mathlib.Core.Bool.{Bool, true, false, not, cond, _&&_}
 use mathlib.Core.List.{List, []}
 use native.Mathlib.Omega.{arith}
-use lib.Dec.{T, leb}
+use lib.Dec.{leb}
 use lib.ListN.{length, getD, take, drop}
+use borrow.Author.Tests.{not-true, not-false}
 use Rattle.costs.specs.declared.networks.Network.{Network}
 use Rattle.costs.specs.declared.answers.Answer.{Answer}
 use Rattle.costs.specs.declared.answers.Answer.the-variants.{ShortTable, NotNetwork}
@@ -14,7 +15,7 @@ use Rattle.costs.specs.Limits.{functionsMost, entriesMost}
 use Rattle.costs.specs.Net.{tuples, start, entries}
 use Rattle.costs.specs.Networks.{inRow, scopeIn, stands, Scoped}
 use Rattle.costs.specs.Judging.{isNetwork, judged}
-use Rattle.costs.proofs.TestLaws.{Decides, by-leb, by-ltb, by-and}
+use Rattle.costs.proofs.TestLaws.{Decides, so, by-leb, by-ltb, by-and}
 use Rattle.costs.proofs.NetLaws.{stretch-below}
 use Rattle.costs.proofs.RowLaws.{scope-function}
 use Rattle.costs.proofs.JudgeLaws.{IsNetwork, by-network, network-ready}
@@ -55,10 +56,10 @@ pub record Shows (net : Network) (held worked : List ℕ) (f : ℕ) : Type 0 whe
   pub held-whole : entries (stands net) ≤ length held
   pub worked-whole : entries (stands net) ≤ length worked
 
-pub may-shows : (net : Network) (held worked : List ℕ) (f : ℕ) → T (mayShow net held worked f) → Shows net held worked f
+pub may-shows : (net : Network) (held worked : List ℕ) (f : ℕ) (may : Bool) → may ≡ mayShow net held worked f → not may ≡ false → Shows net held worked f
 unfolding mayShow
-may-shows net held worked f t =
-    let h = by-and (by-whole net held) (by-and (by-whole net worked) (by-ltb f (net .functions))) .says t in
+may-shows net held worked f may e t =
+    let h = by-and (by-whole net held) (by-and (by-whole net worked) (by-ltb f (net .functions))) .says (so (sym e ∙ not-false may t)) in
     let ready = network-ready net held (h .0 .0) in
     let l : f < net .functions = h .1 .1 in
     record {
@@ -73,14 +74,15 @@ may-shows net held worked f t =
     }
 
 -- the part from its start to its end is the stretch
-pub shown-part : (net : Network) (held worked : List ℕ) (which : Which) (f begins size : ℕ) → mayShow net held worked f ≡ true → begins ≡ getD (net .starts) f 0
+pub shown-part : (net : Network) (held worked : List ℕ) (which : Which) (f begins size : ℕ) (may : Bool) → may ≡ mayShow net held worked f → not may ≡ false → begins ≡ getD (net .starts) f 0
     → size ≡ tuples (stands net .size) (scopeIn (inRow (net .scopes) f)) → take (begins + size - begins) (drop begins (tableOf which held worked)) ≡ shownPart net held worked which f
 unfolding shownPart
-shown-part net held worked which f begins size t e q =
-    let s = may-shows net held worked f (rw t tt) in
+shown-part net held worked which f begins size may m t e q =
+    let s = may-shows net held worked f may m t in
+    let shows : mayShow net held worked f ≡ true = sym m ∙ not-false may t in
     let l : begins + size - begins ≡ size = omega arith in
-    rw (l, e, q, s .placed, t, scope-function (net .top) (net .vars) (net .functions) (net .sizes) (net .scopes) f)
+    rw (l, e, q, s .placed, shows, scope-function (net .top) (net .vars) (net .functions) (net .sizes) (net .scopes) f)
 
-pub shown-empty : (net : Network) (held worked : List ℕ) (which : Which) (f : ℕ) → mayShow net held worked f ≡ false → [] ≡ shownPart net held worked which f
+pub shown-empty : (net : Network) (held worked : List ℕ) (which : Which) (f : ℕ) (may : Bool) → may ≡ mayShow net held worked f → not may ≡ true → [] ≡ shownPart net held worked which f
 unfolding shownPart
-shown-empty net held worked which f t = rw t
+shown-empty net held worked which f may m t = let none : mayShow net held worked f ≡ false = sym m ∙ not-true may t in rw none

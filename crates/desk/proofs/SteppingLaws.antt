@@ -1,5 +1,5 @@
 -- Laws of one step at the desk's place: the working table matters below E alone, and each kind of step leaves what the rules say. Assumes nothing.
-use Prim.Native.Nat.{ℕ, zero, suc, _+_, _-_, _≤_, _<_}
+use Prim.Native.Nat.{ℕ, suc, _+_, _-_, _≤_, _<_}
 use mathlib.Core.Path.{_≡_, refl, sym, ap, _∙_}
 use mathlib.Core.Bool.{Bool, true, false, cond, not, _&&_, _||_}
 use mathlib.Core.List.{List, [], _∷_}
@@ -7,13 +7,13 @@ use mathlib.Core.Option.{Option, none, some}
 use native.Mathlib.Omega.{arith}
 use lib.Dec.{T, leb, ltb, ltb→lt}
 use lib.ListN.{getD}
-use Rattle.costs.specs.declared.answers.Answer.{Answer}
-use Rattle.costs.specs.declared.answers.Answer.the-variants.{Done, LongText, BadToken, OutOfRange, Unfitting, ListedTwice, TextAfter, ShortTable, NotNetwork, BadPlan, Illegal, OverBudget, LongRecord, BrokenRule}
+use Rattle.costs.specs.declared.answers.Answer.the-variants.{Done, Illegal}
 use Rattle.costs.specs.Answers.{numberOf}
 use Rattle.costs.specs.Limits.{varsMost}
-use Rattle.costs.specs.Range.{allTo}
 use Rattle.costs.specs.Net.{Net, Costs, tuples, start, entries, costsOf}
 use Rattle.costs.specs.Judging.{between}
+use Rattle.costs.proofs.AnswerLaws.{number-done}
+use Rattle.costs.proofs.RangeLaws.{allTo-same}
 use Rattle.costs.proofs.NetLaws.{stretch-below}
 use Rattle.costs.proofs.TestLaws.{both, so}
 use Rattle.shifts.specs.declared.moves.Move.{Move}
@@ -39,10 +39,6 @@ use Rattle.desk.specs.Checking.{isNone, may, stepsFault}
 use Rattle.desk.specs.Standing.{isSet, said, Upright, nodeAt, pendingAt, nodesAt, LeadsTo, rootPlace}
 use Rattle.desk.specs.Stepping.{Follows, Took, Shifted, shiftedPlace}
 use Rattle.desk.proofs.StandingLaws.{root-nodes}
-
-allTo-same : (n : ℕ) (t u : ℕ → Bool) → ((i : ℕ) → i < n → t i ≡ u i) → allTo n t ≡ allTo n u
-allTo-same zero t u h = refl
-allTo-same (suc n) t u h = rw (allTo-same n t u (λ i l. h i (omega arith)), h n (omega arith))
 
 and-same : (a b c : Bool) → (T a → b ≡ c) → (a && b) ≡ (a && c)
 and-same true b c h = h tt
@@ -168,22 +164,6 @@ steps-closed r at w p o e = rw e
 pub steps-open : (r : Claim) (at : ℕ → Spelt) (w : ℕ) (p : Place) (o : Option Costs) → p .over ≡ false → At w ≡ stepsFault r at 0 w (nodesAt (r .net .size) p) o
 unfolding stepsFault nodesAt
 steps-open r at w p o e = rw e
-
-number-done : (a : Answer) → numberOf a ≡ 0 → a ≡ Done
-number-done Done e = refl
-number-done LongText e = absurd (omega arith)
-number-done (BadToken at) e = absurd (omega arith)
-number-done (OutOfRange at) e = absurd (omega arith)
-number-done (Unfitting at) e = absurd (omega arith)
-number-done (ListedTwice at) e = absurd (omega arith)
-number-done (TextAfter at) e = absurd (omega arith)
-number-done ShortTable e = absurd (omega arith)
-number-done NotNetwork e = absurd (omega arith)
-number-done (BadPlan at) e = absurd (omega arith)
-number-done Illegal e = absurd (omega arith)
-number-done OverBudget e = absurd (omega arith)
-number-done LongRecord e = absurd (omega arith)
-number-done (BrokenRule at) e = absurd (omega arith)
 
 -- what a shift that was tried left
 pub tried-shift : (n : Net) (live : ℕ → ℕ → Bool) (p : Place) (x : Move) (t t′ : List ℕ) (out : Outcome) → leaves out t′ ≡ tried n live x (p .constant) t

@@ -39,13 +39,9 @@ visit-at t = and 7 visit-kinds.ps (is 7 visit-kinds.ps μ-visit t) visit.Pre
 abbrev visit-below : ℕ → In 7 visit-kinds.ps
 visit-below t = and 7 visit-kinds.ps (falls 7 visit-kinds.ps _<_ μ-visit t) visit.Pre
 
-abbrev visit-Inv-loop : visit-lts.InvT-loop
-visit-Inv-loop work₀ notes₀ out₀ node₀ plan₀ held sizes scopes starts firsts top constant vars functions many asked limit depth size next₀ a₀ work notes out node plan next a = (a ≤ size) × (length work ≡ length work₀) × (length notes ≡ length notes₀) × (length out ≡ length out₀) × (length plan ≡ varsMost) × (node ≡ set node₀ depth a) × ((s : State) → Meets asked vars next₀ plan₀ out₀ s → Meets asked vars next plan out (eachTo (λ b. visited (netOf top vars functions sizes scopes) (costsOf constant held) limit (set node₀ depth (b + 1)) (depth + 1)) a s))
-
-abbrev visit-μ-loop : visit-lts.MeasureT-loop
-visit-μ-loop work₀ notes₀ out₀ node₀ plan₀ held sizes scopes starts firsts top constant vars functions many asked limit depth size next₀ a₀ work notes out node plan next a = size - a
-
-visit-returns : (t : ℕ) → visit-lts.Need-returns (
+-- what each callee asks and tells
+abbrev visit-claims : ℕ → visit-lts.Claims
+visit-claims t = (
   ended-reads.Asked,
   ended-reads.Learnt,
   bound-at-reads.Asked,
@@ -64,7 +60,15 @@ visit-returns : (t : ℕ) → visit-lts.Need-returns (
   visit.Post,
   release-reads.Asked,
   release-reads.Learnt,
-) (visit-at t) visit.Post visit-Inv-loop visit-μ-loop
+)
+
+abbrev visit-Inv-loop : visit-lts.InvT-loop
+visit-Inv-loop work₀ notes₀ out₀ node₀ plan₀ held sizes scopes starts firsts top constant vars functions many asked limit depth size next₀ a₀ work notes out node plan next a = (a ≤ size) × (length work ≡ length work₀) × (length notes ≡ length notes₀) × (length out ≡ length out₀) × (length plan ≡ varsMost) × (node ≡ set node₀ depth a) × ((s : State) → Meets asked vars next₀ plan₀ out₀ s → Meets asked vars next plan out (eachTo (λ b. visited (netOf top vars functions sizes scopes) (costsOf constant held) limit (set node₀ depth (b + 1)) (depth + 1)) a s))
+
+abbrev visit-μ-loop : visit-lts.MeasureT-loop
+visit-μ-loop work₀ notes₀ out₀ node₀ plan₀ held sizes scopes starts firsts top constant vars functions many asked limit depth size next₀ a₀ work notes out node plan next a = size - a
+
+visit-returns : (t : ℕ) → visit-lts.Need-returns (visit-claims t) (visit-at t) visit.Post visit-Inv-loop visit-μ-loop
 visit-returns t c =
     let s = c .before .before .before .before .before .args in
     let n = netOf (s .top) (s .vars) (s .functions) (s .sizes .now) (s .scopes .now) in
@@ -73,48 +77,10 @@ visit-returns t c =
     let fixes = c .before .before .before .before .before .pre .1 .1 .1 .3 in
     (refl, c .before .before .before .before .before .pre .1 .1 .1 .0, λ x h. rw (visited-ended (s .top) (s .vars) (s .functions) (s .limit) (s .depth) (s .sizes .now) (s .scopes .now) (s .node .now) costs x (over-ended _ _ _ _ _ x h (c .if1 .taken))) h)
 
-visit-ended-requires : (t : ℕ) → visit-lts.Need-ended-requires (
-  ended-reads.Asked,
-  ended-reads.Learnt,
-  bound-at-reads.Asked,
-  bound-at-reads.Learnt,
-  closed-reads.Asked,
-  closed-reads.Learnt,
-  found-reads.Asked,
-  found-reads.Learnt,
-  byte-at-reads.Asked,
-  byte-at-reads.Learnt,
-  opened-reads.Asked,
-  opened-reads.Learnt,
-  fix-reads.Asked,
-  fix-reads.Learnt,
-  visit-below t,
-  visit.Post,
-  release-reads.Asked,
-  release-reads.Learnt,
-) (visit-at t) visit.Post visit-Inv-loop visit-μ-loop
+visit-ended-requires : (t : ℕ) → visit-lts.Need-ended-requires (visit-claims t) (visit-at t) visit.Post visit-Inv-loop visit-μ-loop
 visit-ended-requires t c κs = search needs
 
-visit-returns-2 : (t : ℕ) → visit-lts.Need-returns-2 (
-  ended-reads.Asked,
-  ended-reads.Learnt,
-  bound-at-reads.Asked,
-  bound-at-reads.Learnt,
-  closed-reads.Asked,
-  closed-reads.Learnt,
-  found-reads.Asked,
-  found-reads.Learnt,
-  byte-at-reads.Asked,
-  byte-at-reads.Learnt,
-  opened-reads.Asked,
-  opened-reads.Learnt,
-  fix-reads.Asked,
-  fix-reads.Learnt,
-  visit-below t,
-  visit.Post,
-  release-reads.Asked,
-  release-reads.Learnt,
-) (visit-at t) visit.Post visit-Inv-loop visit-μ-loop
+visit-returns-2 : (t : ℕ) → visit-lts.Need-returns-2 (visit-claims t) (visit-at t) visit.Post visit-Inv-loop visit-μ-loop
 visit-returns-2 t c =
     let s = c .before .before .before .before .before .before .before .before .args in
     let n = netOf (s .top) (s .vars) (s .functions) (s .sizes .now) (s .scopes .now) in
@@ -123,136 +89,22 @@ visit-returns-2 t c =
     let fixes = c .before .before .before .before .before .before .before .before .pre .1 .1 .1 .3 in
     (refl, c .before .before .before .before .before .before .before .before .pre .1 .1 .1 .0, λ x h. rw (c .ended .ensures, visited-shut (s .top) (s .vars) (s .functions) (s .limit) (s .depth) (s .sizes .now) (s .scopes .now) (s .node .now) costs x (over-goes _ _ _ _ _ x h (c .before .before .before .if1 .left)) (omega (arith, h .nodes))) (meets-over _ _ _ _ _ x h (c .before .before .before .if1 .left)))
 
-visit-bound-at-requires : (t : ℕ) → visit-lts.Need-bound-at-requires (
-  ended-reads.Asked,
-  ended-reads.Learnt,
-  bound-at-reads.Asked,
-  bound-at-reads.Learnt,
-  closed-reads.Asked,
-  closed-reads.Learnt,
-  found-reads.Asked,
-  found-reads.Learnt,
-  byte-at-reads.Asked,
-  byte-at-reads.Learnt,
-  opened-reads.Asked,
-  opened-reads.Learnt,
-  fix-reads.Asked,
-  fix-reads.Learnt,
-  visit-below t,
-  visit.Post,
-  release-reads.Asked,
-  release-reads.Learnt,
-) (visit-at t) visit.Post visit-Inv-loop visit-μ-loop
+visit-bound-at-requires : (t : ℕ) → visit-lts.Need-bound-at-requires (visit-claims t) (visit-at t) visit.Post visit-Inv-loop visit-μ-loop
 visit-bound-at-requires t c κs = (c .before .before .before .before .before .before .before .before .before .before .pre .1 .0, c .before .before .before .before .before .before .before .before .before .before .pre .1 .1 .0)
 
-visit-closed-requires : (t : ℕ) → visit-lts.Need-closed-requires (
-  ended-reads.Asked,
-  ended-reads.Learnt,
-  bound-at-reads.Asked,
-  bound-at-reads.Learnt,
-  closed-reads.Asked,
-  closed-reads.Learnt,
-  found-reads.Asked,
-  found-reads.Learnt,
-  byte-at-reads.Asked,
-  byte-at-reads.Learnt,
-  opened-reads.Asked,
-  opened-reads.Learnt,
-  fix-reads.Asked,
-  fix-reads.Learnt,
-  visit-below t,
-  visit.Post,
-  release-reads.Asked,
-  release-reads.Learnt,
-) (visit-at t) visit.Post visit-Inv-loop visit-μ-loop
+visit-closed-requires : (t : ℕ) → visit-lts.Need-closed-requires (visit-claims t) (visit-at t) visit.Post visit-Inv-loop visit-μ-loop
 visit-closed-requires t c κs = (omega arith, omega (arith, c .before .before .before .before .before .before .before .before .before .bound-at .ensures .0, c .before .before .before .before .before .before .before .before .before .before .before .before .before .before .before .before .before .before .before .before .pre .1 .1 .0 .3, c .before .before .before .before .before .before .before .before .before .bound-at .kept .1 .0))
 
-visit-same-length : (t : ℕ) → visit-lts.Need-same-length (
-  ended-reads.Asked,
-  ended-reads.Learnt,
-  bound-at-reads.Asked,
-  bound-at-reads.Learnt,
-  closed-reads.Asked,
-  closed-reads.Learnt,
-  found-reads.Asked,
-  found-reads.Learnt,
-  byte-at-reads.Asked,
-  byte-at-reads.Learnt,
-  opened-reads.Asked,
-  opened-reads.Learnt,
-  fix-reads.Asked,
-  fix-reads.Learnt,
-  visit-below t,
-  visit.Post,
-  release-reads.Asked,
-  release-reads.Learnt,
-) (visit-at t) visit.Post visit-Inv-loop visit-μ-loop
+visit-same-length : (t : ℕ) → visit-lts.Need-same-length (visit-claims t) (visit-at t) visit.Post visit-Inv-loop visit-μ-loop
 visit-same-length t c = search needs
 
-visit-same-length-2 : (t : ℕ) → visit-lts.Need-same-length-2 (
-  ended-reads.Asked,
-  ended-reads.Learnt,
-  bound-at-reads.Asked,
-  bound-at-reads.Learnt,
-  closed-reads.Asked,
-  closed-reads.Learnt,
-  found-reads.Asked,
-  found-reads.Learnt,
-  byte-at-reads.Asked,
-  byte-at-reads.Learnt,
-  opened-reads.Asked,
-  opened-reads.Learnt,
-  fix-reads.Asked,
-  fix-reads.Learnt,
-  visit-below t,
-  visit.Post,
-  release-reads.Asked,
-  release-reads.Learnt,
-) (visit-at t) visit.Post visit-Inv-loop visit-μ-loop
+visit-same-length-2 : (t : ℕ) → visit-lts.Need-same-length-2 (visit-claims t) (visit-at t) visit.Post visit-Inv-loop visit-μ-loop
 visit-same-length-2 t c = search needs
 
-visit-same-length-3 : (t : ℕ) → visit-lts.Need-same-length-3 (
-  ended-reads.Asked,
-  ended-reads.Learnt,
-  bound-at-reads.Asked,
-  bound-at-reads.Learnt,
-  closed-reads.Asked,
-  closed-reads.Learnt,
-  found-reads.Asked,
-  found-reads.Learnt,
-  byte-at-reads.Asked,
-  byte-at-reads.Learnt,
-  opened-reads.Asked,
-  opened-reads.Learnt,
-  fix-reads.Asked,
-  fix-reads.Learnt,
-  visit-below t,
-  visit.Post,
-  release-reads.Asked,
-  release-reads.Learnt,
-) (visit-at t) visit.Post visit-Inv-loop visit-μ-loop
+visit-same-length-3 : (t : ℕ) → visit-lts.Need-same-length-3 (visit-claims t) (visit-at t) visit.Post visit-Inv-loop visit-μ-loop
 visit-same-length-3 t c = search needs
 
-visit-returns-3 : (t : ℕ) → visit-lts.Need-returns-3 (
-  ended-reads.Asked,
-  ended-reads.Learnt,
-  bound-at-reads.Asked,
-  bound-at-reads.Learnt,
-  closed-reads.Asked,
-  closed-reads.Learnt,
-  found-reads.Asked,
-  found-reads.Learnt,
-  byte-at-reads.Asked,
-  byte-at-reads.Learnt,
-  opened-reads.Asked,
-  opened-reads.Learnt,
-  fix-reads.Asked,
-  fix-reads.Learnt,
-  visit-below t,
-  visit.Post,
-  release-reads.Asked,
-  release-reads.Learnt,
-) (visit-at t) visit.Post visit-Inv-loop visit-μ-loop
+visit-returns-3 : (t : ℕ) → visit-lts.Need-returns-3 (visit-claims t) (visit-at t) visit.Post visit-Inv-loop visit-μ-loop
 visit-returns-3 t c =
     let s = c .before .before .before .before .before .before .before .before .before .before .before .before .before .before .before .before .before .before .before .before .before .before .before .args in
     let n = netOf (s .top) (s .vars) (s .functions) (s .sizes .now) (s .scopes .now) in
@@ -265,114 +117,19 @@ visit-returns-3 t c =
           rw (visited-closes (s .top) (s .vars) (s .functions) (s .limit) (s .depth) (s .sizes .now) (s .scopes .now) (s .node .now) costs x fixes (c .before .before .before .before .before .before .before .before .before .before .before .before .before .before .before .before .before .before .before .before .before .before .before .pre .1 .1 .1 .2) (over-goes _ _ _ _ _ x h (c .before .before .before .before .before .before .before .before .before .before .before .before .before .before .before .before .before .before .if1 .left)) (omega (arith, h .nodes, c .before .before .before .before .before .before .before .before .before .before .before .before .before .before .before .before .if2 .left)) (omega (arith, h .best, c .before .before .before .before .before .before .before .before .before .before .before .before .bound-at .ensures .1))) (c .before .before .closed .ensures (s .vars) (s .plan .now) x (pass n live costs .shifts) (c .before .before .before .before .before .before .before .before .before .before .before .before .bound-at .ensures .2) h),
     )
 
-visit-found-requires : (t : ℕ) → visit-lts.Need-found-requires (
-  ended-reads.Asked,
-  ended-reads.Learnt,
-  bound-at-reads.Asked,
-  bound-at-reads.Learnt,
-  closed-reads.Asked,
-  closed-reads.Learnt,
-  found-reads.Asked,
-  found-reads.Learnt,
-  byte-at-reads.Asked,
-  byte-at-reads.Learnt,
-  opened-reads.Asked,
-  opened-reads.Learnt,
-  fix-reads.Asked,
-  fix-reads.Learnt,
-  visit-below t,
-  visit.Post,
-  release-reads.Asked,
-  release-reads.Learnt,
-) (visit-at t) visit.Post visit-Inv-loop visit-μ-loop
+visit-found-requires : (t : ℕ) → visit-lts.Need-found-requires (visit-claims t) (visit-at t) visit.Post visit-Inv-loop visit-μ-loop
 visit-found-requires t c κs = (omega (arith, c .before .before .before .before .before .before .before .before .before .before .before .before .before .before .before .before .if2 .left, c .before .before .before .before .before .before .before .before .before .before .before .before .before .before .before .before .before .before .before .before .before .before .before .fits .limit), omega (arith, c .before .before .before .before .before .before .before .before .before .before .before .before .bound-at .ensures .0, c .before .before .before .before .before .before .before .before .before .before .before .before .before .before .before .before .before .before .before .before .before .before .before .pre .1 .1 .0 .3, c .before .before .before .before .before .before .before .before .before .before .before .before .bound-at .kept .1 .0), omega (arith, c .before .before .before .before .before .before .before .before .before .before .before .before .before .before .before .before .before .before .before .before .before .before .before .pre .1 .0 .ready .scoped .vars-few), c .before .before .before .before .before .before .before .before .before .before .before .before .before .before .before .before .before .before .before .before .before .before .before .pre .1 .1 .1 .0)
 
-visit-same-length-4 : (t : ℕ) → visit-lts.Need-same-length-4 (
-  ended-reads.Asked,
-  ended-reads.Learnt,
-  bound-at-reads.Asked,
-  bound-at-reads.Learnt,
-  closed-reads.Asked,
-  closed-reads.Learnt,
-  found-reads.Asked,
-  found-reads.Learnt,
-  byte-at-reads.Asked,
-  byte-at-reads.Learnt,
-  opened-reads.Asked,
-  opened-reads.Learnt,
-  fix-reads.Asked,
-  fix-reads.Learnt,
-  visit-below t,
-  visit.Post,
-  release-reads.Asked,
-  release-reads.Learnt,
-) (visit-at t) visit.Post visit-Inv-loop visit-μ-loop
+visit-same-length-4 : (t : ℕ) → visit-lts.Need-same-length-4 (visit-claims t) (visit-at t) visit.Post visit-Inv-loop visit-μ-loop
 visit-same-length-4 t c = search needs
 
-visit-same-length-5 : (t : ℕ) → visit-lts.Need-same-length-5 (
-  ended-reads.Asked,
-  ended-reads.Learnt,
-  bound-at-reads.Asked,
-  bound-at-reads.Learnt,
-  closed-reads.Asked,
-  closed-reads.Learnt,
-  found-reads.Asked,
-  found-reads.Learnt,
-  byte-at-reads.Asked,
-  byte-at-reads.Learnt,
-  opened-reads.Asked,
-  opened-reads.Learnt,
-  fix-reads.Asked,
-  fix-reads.Learnt,
-  visit-below t,
-  visit.Post,
-  release-reads.Asked,
-  release-reads.Learnt,
-) (visit-at t) visit.Post visit-Inv-loop visit-μ-loop
+visit-same-length-5 : (t : ℕ) → visit-lts.Need-same-length-5 (visit-claims t) (visit-at t) visit.Post visit-Inv-loop visit-μ-loop
 visit-same-length-5 t c = search needs
 
-visit-same-length-6 : (t : ℕ) → visit-lts.Need-same-length-6 (
-  ended-reads.Asked,
-  ended-reads.Learnt,
-  bound-at-reads.Asked,
-  bound-at-reads.Learnt,
-  closed-reads.Asked,
-  closed-reads.Learnt,
-  found-reads.Asked,
-  found-reads.Learnt,
-  byte-at-reads.Asked,
-  byte-at-reads.Learnt,
-  opened-reads.Asked,
-  opened-reads.Learnt,
-  fix-reads.Asked,
-  fix-reads.Learnt,
-  visit-below t,
-  visit.Post,
-  release-reads.Asked,
-  release-reads.Learnt,
-) (visit-at t) visit.Post visit-Inv-loop visit-μ-loop
+visit-same-length-6 : (t : ℕ) → visit-lts.Need-same-length-6 (visit-claims t) (visit-at t) visit.Post visit-Inv-loop visit-μ-loop
 visit-same-length-6 t c = search needs
 
-visit-returns-4 : (t : ℕ) → visit-lts.Need-returns-4 (
-  ended-reads.Asked,
-  ended-reads.Learnt,
-  bound-at-reads.Asked,
-  bound-at-reads.Learnt,
-  closed-reads.Asked,
-  closed-reads.Learnt,
-  found-reads.Asked,
-  found-reads.Learnt,
-  byte-at-reads.Asked,
-  byte-at-reads.Learnt,
-  opened-reads.Asked,
-  opened-reads.Learnt,
-  fix-reads.Asked,
-  fix-reads.Learnt,
-  visit-below t,
-  visit.Post,
-  release-reads.Asked,
-  release-reads.Learnt,
-) (visit-at t) visit.Post visit-Inv-loop visit-μ-loop
+visit-returns-4 : (t : ℕ) → visit-lts.Need-returns-4 (visit-claims t) (visit-at t) visit.Post visit-Inv-loop visit-μ-loop
 visit-returns-4 t c =
     let s = c .before .before .before .before .before .before .before .before .before .before .before .before .before .before .before .before .before .before .before .before .before .before .before .before .before .before .args in
     let n = netOf (s .top) (s .vars) (s .functions) (s .sizes .now) (s .scopes .now) in
@@ -385,70 +142,13 @@ visit-returns-4 t c =
           rw (visited-finds (s .top) (s .vars) (s .functions) (s .limit) (s .depth) (s .sizes .now) (s .scopes .now) (s .node .now) costs x fixes (c .before .before .before .before .before .before .before .before .before .before .before .before .before .before .before .before .before .before .before .before .before .before .before .before .before .before .pre .1 .1 .1 .2) (over-goes _ _ _ _ _ x h (c .before .before .before .before .before .before .before .before .before .before .before .before .before .before .before .before .before .before .before .before .before .if1 .left)) (omega (arith, h .nodes, c .before .before .before .before .before .before .before .before .before .before .before .before .before .before .before .before .before .before .before .if2 .left)) (omega (arith, h .best, c .before .before .before .before .before .before .before .before .before .before .before .before .before .before .before .bound-at .ensures .1)) (c .before .before .before .before .before .before .before .if4 .taken), ← c .before .before .before .before .before .before .before .before .before .before .before .before .before .before .before .bound-at .ensures .1) (c .before .before .found .ensures .1 x (pass n live costs .shifts) (c .before .before .before .before .before .before .before .before .before .before .before .before .before .before .before .bound-at .ensures .2) h),
     )
 
-visit-byte-at-requires : (t : ℕ) → visit-lts.Need-byte-at-requires (
-  ended-reads.Asked,
-  ended-reads.Learnt,
-  bound-at-reads.Asked,
-  bound-at-reads.Learnt,
-  closed-reads.Asked,
-  closed-reads.Learnt,
-  found-reads.Asked,
-  found-reads.Learnt,
-  byte-at-reads.Asked,
-  byte-at-reads.Learnt,
-  opened-reads.Asked,
-  opened-reads.Learnt,
-  fix-reads.Asked,
-  fix-reads.Learnt,
-  visit-below t,
-  visit.Post,
-  release-reads.Asked,
-  release-reads.Learnt,
-) (visit-at t) visit.Post visit-Inv-loop visit-μ-loop
+visit-byte-at-requires : (t : ℕ) → visit-lts.Need-byte-at-requires (visit-claims t) (visit-at t) visit.Post visit-Inv-loop visit-μ-loop
 visit-byte-at-requires t c κs = omega (arith, c .before .before .before .before .before .before .before .before .before .before .before .before .before .before .before .before .before .before .before .pre .1 .1 .1 .2, c .before .before .before .before .before .before .before .before .before .before .before .before .before .before .before .before .before .before .before .pre .1 .0 .ready .scoped .vars-few)
 
-visit-opened-requires : (t : ℕ) → visit-lts.Need-opened-requires (
-  ended-reads.Asked,
-  ended-reads.Learnt,
-  bound-at-reads.Asked,
-  bound-at-reads.Learnt,
-  closed-reads.Asked,
-  closed-reads.Learnt,
-  found-reads.Asked,
-  found-reads.Learnt,
-  byte-at-reads.Asked,
-  byte-at-reads.Learnt,
-  opened-reads.Asked,
-  opened-reads.Learnt,
-  fix-reads.Asked,
-  fix-reads.Learnt,
-  visit-below t,
-  visit.Post,
-  release-reads.Asked,
-  release-reads.Learnt,
-) (visit-at t) visit.Post visit-Inv-loop visit-μ-loop
+visit-opened-requires : (t : ℕ) → visit-lts.Need-opened-requires (visit-claims t) (visit-at t) visit.Post visit-Inv-loop visit-μ-loop
 visit-opened-requires t c κs = omega (arith, c .before .before .before .before .before .before .before .before .before .before .before .before .before .before .if2 .left, c .before .before .before .before .before .before .before .before .before .before .before .before .before .before .before .before .before .before .before .before .before .fits .limit)
 
-visit-loop-holds : (t : ℕ) → visit-lts.Need-loop-holds (
-  ended-reads.Asked,
-  ended-reads.Learnt,
-  bound-at-reads.Asked,
-  bound-at-reads.Learnt,
-  closed-reads.Asked,
-  closed-reads.Learnt,
-  found-reads.Asked,
-  found-reads.Learnt,
-  byte-at-reads.Asked,
-  byte-at-reads.Learnt,
-  opened-reads.Asked,
-  opened-reads.Learnt,
-  fix-reads.Asked,
-  fix-reads.Learnt,
-  visit-below t,
-  visit.Post,
-  release-reads.Asked,
-  release-reads.Learnt,
-) (visit-at t) visit.Post visit-Inv-loop visit-μ-loop
+visit-loop-holds : (t : ℕ) → visit-lts.Need-loop-holds (visit-claims t) (visit-at t) visit.Post visit-Inv-loop visit-μ-loop
 visit-loop-holds t c =
     let s = c .before .before .before .before .before .before .before .before .before .before .before .before .before .before .before .before .before .before .before .before .before .before .before .before .args in
     let n = netOf (s .top) (s .vars) (s .functions) (s .sizes .now) (s .scopes .now) in
@@ -457,26 +157,7 @@ visit-loop-holds t c =
     let fixes = c .before .before .before .before .before .before .before .before .before .before .before .before .before .before .before .before .before .before .before .before .before .before .before .before .pre .1 .1 .1 .3 in
     (omega arith, refl, refl, refl, c .before .before .before .before .before .before .before .before .before .before .before .before .before .before .before .before .before .before .before .before .before .before .before .before .pre .1 .1 .1 .0, set-free (s .node .now) (s .depth) (fixes .free (s .depth) (omega arith)), λ x h. h)
 
-visit-fix-requires : (t : ℕ) → visit-lts.Need-fix-requires (
-  ended-reads.Asked,
-  ended-reads.Learnt,
-  bound-at-reads.Asked,
-  bound-at-reads.Learnt,
-  closed-reads.Asked,
-  closed-reads.Learnt,
-  found-reads.Asked,
-  found-reads.Learnt,
-  byte-at-reads.Asked,
-  byte-at-reads.Learnt,
-  opened-reads.Asked,
-  opened-reads.Learnt,
-  fix-reads.Asked,
-  fix-reads.Learnt,
-  visit-below t,
-  visit.Post,
-  release-reads.Asked,
-  release-reads.Learnt,
-) (visit-at t) visit.Post visit-Inv-loop visit-μ-loop
+visit-fix-requires : (t : ℕ) → visit-lts.Need-fix-requires (visit-claims t) (visit-at t) visit.Post visit-Inv-loop visit-μ-loop
 visit-fix-requires t c κs =
     let s = c .before .before .before .before .before .before .before .before .before .before .before .before .before .before .before .before .before .before .before .before .before .before .before .before .before .before .before .args in
     let n = netOf (s .top) (s .vars) (s .functions) (s .sizes .now) (s .scopes .now) in
@@ -485,48 +166,10 @@ visit-fix-requires t c κs =
     let fixes = c .before .before .before .before .before .before .before .before .before .before .before .before .before .before .before .before .before .before .before .before .before .before .before .before .before .before .before .pre .1 .1 .1 .3 in
     (omega (arith, c .before .before .before .before .before .before .before .before .before .before .before .before .before .before .before .before .before .before .before .before .before .before .before .before .before .before .before .pre .1 .0 .ready .scoped .vars-few, c .before .before .before .before .before .before .before .before .before .before .before .before .before .before .before .before .before .before .before .before .before .before .before .before .before .before .before .pre .1 .1 .1 .2, c .before .before .before .before .before .before .before .before .if4 .left), omega (arith, c .before .before .before .before .before .before .before .byte-at .ensures, c .before .before .before .before .before .before .before .before .before .before .before .before .before .before .before .before .before .before .before .before .before .before .before .before .before .before .before .pre .1 .0 .ready .scoped .small (s .depth) (omega (arith, c .before .before .before .before .before .before .before .before .before .before .before .before .before .before .before .before .before .before .before .before .before .before .before .before .before .before .before .pre .1 .1 .1 .2, c .before .before .before .before .before .before .before .before .if4 .left))))
 
-visit-add-visit : (t : ℕ) → visit-lts.Need-add-visit (
-  ended-reads.Asked,
-  ended-reads.Learnt,
-  bound-at-reads.Asked,
-  bound-at-reads.Learnt,
-  closed-reads.Asked,
-  closed-reads.Learnt,
-  found-reads.Asked,
-  found-reads.Learnt,
-  byte-at-reads.Asked,
-  byte-at-reads.Learnt,
-  opened-reads.Asked,
-  opened-reads.Learnt,
-  fix-reads.Asked,
-  fix-reads.Learnt,
-  visit-below t,
-  visit.Post,
-  release-reads.Asked,
-  release-reads.Learnt,
-) (visit-at t) visit.Post visit-Inv-loop visit-μ-loop
+visit-add-visit : (t : ℕ) → visit-lts.Need-add-visit (visit-claims t) (visit-at t) visit.Post visit-Inv-loop visit-μ-loop
 visit-add-visit t c = omega (arith, c .before .before .before .before .before .before .before .before .before .before .before .before .before .before .before .before .before .before .before .before .before .before .before .before .before .before .before .before .before .before .before .before .before .pre .1 .1 .1 .2, c .before .before .before .before .before .before .before .before .before .before .before .before .before .before .before .before .before .before .before .before .before .before .before .before .before .before .before .before .before .before .before .before .before .pre .1 .0 .ready .scoped .vars-few)
 
-visit-visit-requires : (t : ℕ) → visit-lts.Need-visit-requires (
-  ended-reads.Asked,
-  ended-reads.Learnt,
-  bound-at-reads.Asked,
-  bound-at-reads.Learnt,
-  closed-reads.Asked,
-  closed-reads.Learnt,
-  found-reads.Asked,
-  found-reads.Learnt,
-  byte-at-reads.Asked,
-  byte-at-reads.Learnt,
-  opened-reads.Asked,
-  opened-reads.Learnt,
-  fix-reads.Asked,
-  fix-reads.Learnt,
-  visit-below t,
-  visit.Post,
-  release-reads.Asked,
-  release-reads.Learnt,
-) (visit-at t) visit.Post visit-Inv-loop visit-μ-loop
+visit-visit-requires : (t : ℕ) → visit-lts.Need-visit-requires (visit-claims t) (visit-at t) visit.Post visit-Inv-loop visit-μ-loop
 visit-visit-requires t c κs =
     let s = c .before .before .before .before .before .before .before .before .before .before .before .before .before .before .before .before .before .before .before .before .before .before .before .before .before .before .before .before .before .before .before .before .before .args in
     let n = netOf (s .top) (s .vars) (s .functions) (s .sizes .now) (s .scopes .now) in
@@ -548,70 +191,13 @@ visit-visit-requires t c κs =
       ),
     )
 
-visit-add-a : (t : ℕ) → visit-lts.Need-add-a (
-  ended-reads.Asked,
-  ended-reads.Learnt,
-  bound-at-reads.Asked,
-  bound-at-reads.Learnt,
-  closed-reads.Asked,
-  closed-reads.Learnt,
-  found-reads.Asked,
-  found-reads.Learnt,
-  byte-at-reads.Asked,
-  byte-at-reads.Learnt,
-  opened-reads.Asked,
-  opened-reads.Learnt,
-  fix-reads.Asked,
-  fix-reads.Learnt,
-  visit-below t,
-  visit.Post,
-  release-reads.Asked,
-  release-reads.Learnt,
-) (visit-at t) visit.Post visit-Inv-loop visit-μ-loop
+visit-add-a : (t : ℕ) → visit-lts.Need-add-a (visit-claims t) (visit-at t) visit.Post visit-Inv-loop visit-μ-loop
 visit-add-a t c = omega (arith, c .before .before .before .before .before .before .before .before .before .before .before .before .before .before .before .before .before .before .before .before .byte-at .ensures)
 
-visit-loop-less : (t : ℕ) → visit-lts.Need-loop-less (
-  ended-reads.Asked,
-  ended-reads.Learnt,
-  bound-at-reads.Asked,
-  bound-at-reads.Learnt,
-  closed-reads.Asked,
-  closed-reads.Learnt,
-  found-reads.Asked,
-  found-reads.Learnt,
-  byte-at-reads.Asked,
-  byte-at-reads.Learnt,
-  opened-reads.Asked,
-  opened-reads.Learnt,
-  fix-reads.Asked,
-  fix-reads.Learnt,
-  visit-below t,
-  visit.Post,
-  release-reads.Asked,
-  release-reads.Learnt,
-) (visit-at t) visit.Post visit-Inv-loop visit-μ-loop
+visit-loop-less : (t : ℕ) → visit-lts.Need-loop-less (visit-claims t) (visit-at t) visit.Post visit-Inv-loop visit-μ-loop
 visit-loop-less t c = search needs
 
-visit-loop-again : (t : ℕ) → visit-lts.Need-loop-again (
-  ended-reads.Asked,
-  ended-reads.Learnt,
-  bound-at-reads.Asked,
-  bound-at-reads.Learnt,
-  closed-reads.Asked,
-  closed-reads.Learnt,
-  found-reads.Asked,
-  found-reads.Learnt,
-  byte-at-reads.Asked,
-  byte-at-reads.Learnt,
-  opened-reads.Asked,
-  opened-reads.Learnt,
-  fix-reads.Asked,
-  fix-reads.Learnt,
-  visit-below t,
-  visit.Post,
-  release-reads.Asked,
-  release-reads.Learnt,
-) (visit-at t) visit.Post visit-Inv-loop visit-μ-loop
+visit-loop-again : (t : ℕ) → visit-lts.Need-loop-again (visit-claims t) (visit-at t) visit.Post visit-Inv-loop visit-μ-loop
 visit-loop-again t c =
     let s = c .before .before .before .before .before .before .before .before .before .before .before .before .before .before .before .before .before .before .before .before .before .before .before .before .before .before .before .before .before .before .before .before .before .before .before .before .before .before .before .before .args in
     let n = netOf (s .top) (s .vars) (s .functions) (s .sizes .now) (s .scopes .now) in
@@ -629,26 +215,7 @@ visit-loop-again t c =
       λ x h. rw (each-more _ (k .a) x) (rw now-node at (c .before .before .before .before .before .before .visit .ensures .2 _ (k .inv .6 x h))),
     )
 
-visit-release-requires : (t : ℕ) → visit-lts.Need-release-requires (
-  ended-reads.Asked,
-  ended-reads.Learnt,
-  bound-at-reads.Asked,
-  bound-at-reads.Learnt,
-  closed-reads.Asked,
-  closed-reads.Learnt,
-  found-reads.Asked,
-  found-reads.Learnt,
-  byte-at-reads.Asked,
-  byte-at-reads.Learnt,
-  opened-reads.Asked,
-  opened-reads.Learnt,
-  fix-reads.Asked,
-  fix-reads.Learnt,
-  visit-below t,
-  visit.Post,
-  release-reads.Asked,
-  release-reads.Learnt,
-) (visit-at t) visit.Post visit-Inv-loop visit-μ-loop
+visit-release-requires : (t : ℕ) → visit-lts.Need-release-requires (visit-claims t) (visit-at t) visit.Post visit-Inv-loop visit-μ-loop
 visit-release-requires t c κs =
     let s = c .before .before .before .before .before .before .before .before .before .before .before .before .before .before .before .before .before .before .before .before .before .before .before .before .before .before .before .args in
     let n = netOf (s .top) (s .vars) (s .functions) (s .sizes .now) (s .scopes .now) in
@@ -657,92 +224,16 @@ visit-release-requires t c κs =
     let fixes = c .before .before .before .before .before .before .before .before .before .before .before .before .before .before .before .before .before .before .before .before .before .before .before .before .before .before .before .pre .1 .1 .1 .3 in
     omega (arith, c .before .before .before .before .before .before .before .before .before .before .before .before .before .before .before .before .before .before .before .before .before .before .before .before .before .before .before .pre .1 .0 .ready .scoped .vars-few, c .before .before .before .before .before .before .before .before .before .before .before .before .before .before .before .before .before .before .before .before .before .before .before .before .before .before .before .pre .1 .1 .1 .2)
 
-visit-same-length-7 : (t : ℕ) → visit-lts.Need-same-length-7 (
-  ended-reads.Asked,
-  ended-reads.Learnt,
-  bound-at-reads.Asked,
-  bound-at-reads.Learnt,
-  closed-reads.Asked,
-  closed-reads.Learnt,
-  found-reads.Asked,
-  found-reads.Learnt,
-  byte-at-reads.Asked,
-  byte-at-reads.Learnt,
-  opened-reads.Asked,
-  opened-reads.Learnt,
-  fix-reads.Asked,
-  fix-reads.Learnt,
-  visit-below t,
-  visit.Post,
-  release-reads.Asked,
-  release-reads.Learnt,
-) (visit-at t) visit.Post visit-Inv-loop visit-μ-loop
+visit-same-length-7 : (t : ℕ) → visit-lts.Need-same-length-7 (visit-claims t) (visit-at t) visit.Post visit-Inv-loop visit-μ-loop
 visit-same-length-7 t c = search needs
 
-visit-same-length-8 : (t : ℕ) → visit-lts.Need-same-length-8 (
-  ended-reads.Asked,
-  ended-reads.Learnt,
-  bound-at-reads.Asked,
-  bound-at-reads.Learnt,
-  closed-reads.Asked,
-  closed-reads.Learnt,
-  found-reads.Asked,
-  found-reads.Learnt,
-  byte-at-reads.Asked,
-  byte-at-reads.Learnt,
-  opened-reads.Asked,
-  opened-reads.Learnt,
-  fix-reads.Asked,
-  fix-reads.Learnt,
-  visit-below t,
-  visit.Post,
-  release-reads.Asked,
-  release-reads.Learnt,
-) (visit-at t) visit.Post visit-Inv-loop visit-μ-loop
+visit-same-length-8 : (t : ℕ) → visit-lts.Need-same-length-8 (visit-claims t) (visit-at t) visit.Post visit-Inv-loop visit-μ-loop
 visit-same-length-8 t c = search needs
 
-visit-same-length-9 : (t : ℕ) → visit-lts.Need-same-length-9 (
-  ended-reads.Asked,
-  ended-reads.Learnt,
-  bound-at-reads.Asked,
-  bound-at-reads.Learnt,
-  closed-reads.Asked,
-  closed-reads.Learnt,
-  found-reads.Asked,
-  found-reads.Learnt,
-  byte-at-reads.Asked,
-  byte-at-reads.Learnt,
-  opened-reads.Asked,
-  opened-reads.Learnt,
-  fix-reads.Asked,
-  fix-reads.Learnt,
-  visit-below t,
-  visit.Post,
-  release-reads.Asked,
-  release-reads.Learnt,
-) (visit-at t) visit.Post visit-Inv-loop visit-μ-loop
+visit-same-length-9 : (t : ℕ) → visit-lts.Need-same-length-9 (visit-claims t) (visit-at t) visit.Post visit-Inv-loop visit-μ-loop
 visit-same-length-9 t c = search needs
 
-visit-returns-5 : (t : ℕ) → visit-lts.Need-returns-5 (
-  ended-reads.Asked,
-  ended-reads.Learnt,
-  bound-at-reads.Asked,
-  bound-at-reads.Learnt,
-  closed-reads.Asked,
-  closed-reads.Learnt,
-  found-reads.Asked,
-  found-reads.Learnt,
-  byte-at-reads.Asked,
-  byte-at-reads.Learnt,
-  opened-reads.Asked,
-  opened-reads.Learnt,
-  fix-reads.Asked,
-  fix-reads.Learnt,
-  visit-below t,
-  visit.Post,
-  release-reads.Asked,
-  release-reads.Learnt,
-) (visit-at t) visit.Post visit-Inv-loop visit-μ-loop
+visit-returns-5 : (t : ℕ) → visit-lts.Need-returns-5 (visit-claims t) (visit-at t) visit.Post visit-Inv-loop visit-μ-loop
 visit-returns-5 t c =
     let s = c .before .before .before .before .before .before .before .before .before .before .before .before .before .before .before .before .before .before .before .before .before .before .before .before .before .before .before .before .args in
     let n = netOf (s .top) (s .vars) (s .functions) (s .sizes .now) (s .scopes .now) in
@@ -758,26 +249,7 @@ visit-returns-5 t c =
     )
 
 pub +visit-spec : {M : Type 1} → statement M
-+visit-spec = close μ-visit λ t. visit-lts.spec (
-  ended-reads.Asked,
-  ended-reads.Learnt,
-  bound-at-reads.Asked,
-  bound-at-reads.Learnt,
-  closed-reads.Asked,
-  closed-reads.Learnt,
-  found-reads.Asked,
-  found-reads.Learnt,
-  byte-at-reads.Asked,
-  byte-at-reads.Learnt,
-  opened-reads.Asked,
-  opened-reads.Learnt,
-  fix-reads.Asked,
-  fix-reads.Learnt,
-  visit-below t,
-  visit.Post,
-  release-reads.Asked,
-  release-reads.Learnt,
-)
++visit-spec = close μ-visit λ t. visit-lts.spec (visit-claims t)
     (visit-at t)
     visit.Post
     visit-Inv-loop
