@@ -1,10 +1,13 @@
 // An ordinary reader of wcsp text, written from document 01 alone, beside the proved one: limits, texts that meet each refusal, and many
-// mutated texts are read by both and compared; then both are timed on texts of 65,536 bytes.
+// mutated texts are read by both and compared; then both are timed on texts of 65,536 bytes. `compare.sh` builds and runs it: the
+// outcomes come from the program `trials`, the times from a call of the library.
+use std::io::{BufRead, BufReader, Write};
+use std::process::{Child, ChildStdin, ChildStdout, Command, Stdio};
+use std::sync::{Mutex, OnceLock};
 use std::time::Instant;
 
 extern "C" {
-    fn read_flat(text: *const u8, text_len: usize, table: *mut u64, table_len: usize, out: *mut u64, out_len: usize) -> u64;
-    fn read_only(text: *const u8, text_len: usize, table: *mut u64, table_len: usize) -> u64;
+    fn read_text(text: *const u8, text_len: usize, table: *mut u64, table_len: usize) -> u64;
 }
 
 #[derive(Debug, PartialEq, Clone, Default)]
@@ -14,7 +17,8 @@ struct Outcome {
     top: u64,
     constant: u64,
     sizes: Vec<u64>,
-    rows: Vec<(u64, [u64; 3], u64)>,
+    // arity and variables of each function; where its stretch begins shows in the table
+    rows: Vec<Vec<u64>>,
     table: Vec<u64>,
 }
 
@@ -198,7 +202,7 @@ fn inner(text: &[u8], room: usize) -> Res<Outcome> {
                 let start = table.len();
                 table.resize(start + many, 0);
                 costs(&mut r, k, ds, &mut table[start..])?;
-                rows.push((arity as u64, xs, start as u64));
+                rows.push([&[arity as u64][..], &xs[..arity as usize]].concat());
             }
         }
     }
@@ -222,18 +226,51 @@ fn ordinary(text: &[u8], room: usize) -> Outcome {
     }
 }
 
+struct Trials {
+    _program: Child,
+    input: ChildStdin,
+    output: BufReader<ChildStdout>,
+}
+
+static TRIALS: OnceLock<Mutex<Trials>> = OnceLock::new();
+
+fn trials() -> Mutex<Trials> {
+    let name = std::env::args().nth(1).expect("the program trials is to be named");
+    let mut program = Command::new(name).stdin(Stdio::piped()).stdout(Stdio::piped()).spawn().expect("trials does not start");
+    let input = program.stdin.take().unwrap();
+    let output = BufReader::new(program.stdout.take().unwrap());
+    Mutex::new(Trials { _program: program, input, output })
+}
+
 fn proved(text: &[u8], room: usize) -> Outcome {
-    let mut table = vec![77u64; room];
-    let mut out = vec![0u64; 1350];
-    unsafe { read_flat(text.as_ptr(), text.len(), table.as_mut_ptr(), table.len(), out.as_mut_ptr(), out.len()) };
-    let n = out[4] as usize;
-    let f = out[5] as usize;
-    let past = |a: usize, b: usize| assert!(out[a..b].iter().all(|&x| x == 0), "a place past a count is not 0");
-    past(6 + n, 70);
-    past(70 + 4 * f, 1094);
-    past(1094 + f, 1350);
-    let rows = (0..f).map(|i| (out[70 + 4 * i], [out[71 + 4 * i], out[72 + 4 * i], out[73 + 4 * i]], out[1094 + i])).collect();
-    Outcome { number: out[0], place: out[1], top: out[2], constant: out[3], sizes: out[6..6 + n].to_vec(), rows, table }
+    let mut trials = TRIALS.get_or_init(trials).lock().unwrap();
+    let frame = [format!("read {} {}\n", text.len(), room).as_bytes(), text, b"\n"].concat();
+    trials.input.write_all(&frame).unwrap();
+    let mut line = String::new();
+    trials.output.read_line(&mut line).unwrap();
+    let (told, runs) = line.trim_end().split_once(" table").expect("a line of another form");
+    let table = runs
+        .split_whitespace()
+        .flat_map(|run| {
+            let (value, count) = run.split_once('*').unwrap();
+            vec![value.parse().unwrap(); count.parse().unwrap()]
+        })
+        .collect();
+    let mut numbers = told.split(' ').filter_map(|word| word.parse::<u64>().ok());
+    let mut next = || numbers.next().unwrap();
+    if told.starts_with("refused") {
+        return Outcome { number: next(), place: next(), table, ..Default::default() };
+    }
+    let (top, constant, vars) = (next(), next(), next());
+    let sizes = (0..vars).map(|_| next()).collect();
+    let functions = next();
+    let rows = (0..functions)
+        .map(|_| {
+            let arity = next();
+            std::iter::once(arity).chain((0..arity).map(|_| next()).collect::<Vec<_>>()).collect()
+        })
+        .collect();
+    Outcome { number: 0, place: 0, top, constant, sizes, rows, table }
 }
 
 struct Random(u64);
@@ -442,7 +479,7 @@ fn main() {
             std::hint::black_box(inner(std::hint::black_box(&t), 4096).is_ok());
             best_a = best_a.min(s.elapsed().as_nanos());
             let s = Instant::now();
-            std::hint::black_box(unsafe { read_only(t.as_ptr(), t.len(), table.as_mut_ptr(), table.len()) });
+            std::hint::black_box(unsafe { read_text(t.as_ptr(), t.len(), table.as_mut_ptr(), table.len()) });
             best_b = best_b.min(s.elapsed().as_nanos());
         }
         println!("{}: ordinary {} ns, proved {} ns, ratio {:.2}", name, best_a, best_b, best_b as f64 / best_a as f64);

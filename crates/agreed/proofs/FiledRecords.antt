@@ -51,7 +51,7 @@ bytes-tell ws small w = elim (decLt w (length ws)) [
       ∙ sym (List·getD-eq-default ws 0 {n = w} (omega (arith, l)))
 ]
 
-kept-bytes : (n : Net) (held : Costs) (ws : List ℕ) → All (λ w. w < 2 ^ 64) ws → headerWords ≤ length ws → KeepsRules n held (tells ws) (length ws) → KeptBy n held (bytesOf ws)
+pub kept-bytes : (n : Net) (held : Costs) (ws : List ℕ) → All (λ w. w < 2 ^ 64) ws → headerWords ≤ length ws → KeepsRules n held (tells ws) (length ws) → KeptBy n held (bytesOf ws)
 kept-bytes n held ws small header rules = record {
   words = length ws;
   whole = bytesOf-many ws;

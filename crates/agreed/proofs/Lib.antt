@@ -1,3 +1,4 @@
 pub mod RecordsExist
 pub mod WrittenRecords
 pub mod FiledRecords
+pub mod EachHasRecord

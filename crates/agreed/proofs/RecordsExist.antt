@@ -1,4 +1,4 @@
--- Each network of few enough plans has a record that keeps the rules, of wordsOf that fit. Assumes nothing.
+-- Each network of few enough plans has a record that keeps the rules, of words that fit. Assumes nothing.
 use Prim.Native.Nat.{ℕ, suc, _+_, _*_, _^_, _≤_, _<_}
 use mathlib.Core.Path.{_≡_, refl}
 use mathlib.Core.Bool.{Bool, true, false, cond}
@@ -56,7 +56,7 @@ module _ (N S F A W : ℕ) (r : Claim) (lim : Within N S F A (r .net)) (n-fits :
   spells-small (s ∷ ss) [] o h = absurd h
   spells-small (s ∷ ss) (d ∷ ds) o h = All-append (λ w. w < W) (wordsOf s) (spell ss) (step-small d o s (h .0)) (spells-small ss (nodesAfter r d ds s) (costsAfter r d o s) (h .1))
 
--- the first search writes at most a pass and a Close at a node
+-- the first search writes at most a pass and a close at a node
 first-short : (N S F A : ℕ) (n : Net) → Sound n → Within N S F A n → (held : Costs) (d : TreeNode) (b : ℕ) → LookShort (F * (A * S) + N + 1) (firstLook n held d b)
 unfolding firstLook
 first-short N S F A n good lim held d b = look-choose (LookShort (F * (A * S) + N + 1)) (leb b (pass n (d .live) held .costs .base)) _ _ (λ t. closing)
@@ -65,7 +65,7 @@ first-short N S F A n good lim held d b = look-choose (LookShort (F * (A * S) + 
     closing : length (map Shift (pass n (d .live) held .shifts) ++ (Close ∷ [])) ≤ F * (A * S) + N + 1
     closing = omega (arith, length-append (map Shift (pass n (d .live) held .shifts)) (Close ∷ []), length-map (pass n (d .live) held .shifts) Shift, pass-length N S F A n good lim (d .live) held)
 
--- a record of the cheapest plan, or of none, that keeps the rules and whose wordsOf are below W
+-- a record of the cheapest plan, or of none, that keeps the rules and whose words are below W
 pub record Recorded (n : Net) (held : Costs) (W : ℕ) : Type 0 where
   pub plan : List ℕ
   pub cost : ℕ

@@ -30,7 +30,7 @@ pub fn search_and_check(
     out: &mut [u8],
     budget: u64,
 ) -> Checked
-    ensures { λ r. ⌜ (record { result = r .found; out = now (out .exit) } ≡ searchLeaves net (now (held .entry)) (now (work .entry)) (now (out .entry)) true budget) × (r .answer ≡ r .found .answer) × ((j : ℕ) → getD (now (work .exit)) j 0 ≡ 0) ⌝ }
+    ensures { λ r. ⌜ (record { result = r .found; out = now (out .exit) } ≡ searchLeaves net (now (held .entry)) (now (work .entry)) (now (out .entry)) true budget) × (r .answer ≡ r .found .answer) × (r .found .answer ≡ Done → Filed net (now (held .entry)) (length (now (work .entry))) (now (out .exit))) × ((j : ℕ) → getD (now (work .exit)) j 0 ≡ 0) ⌝ }
 {
     let found = search(net, held, work, out, true, budget);
     let said = found.answer;

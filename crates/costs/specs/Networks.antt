@@ -1,4 +1,4 @@
--- How the struct stands for a network. Places past a count are looked at by none of these.
+-- How the struct stands for a network. What is said of a network speaks of places below its counts alone.
 use Prim.Native.Nat.{ℕ, _+_, _-_, _*_, _≤_, _<_}
 use mathlib.Core.Path.{_≡_}
 use mathlib.Core.Bool.{cond}

@@ -216,9 +216,15 @@ accepted-kept net held room bytes e = go (judged net held (min (length held) roo
         )
     go (Refused a) q e = absurd (judged-refuses net held (min (length held) room) (q ∙ ap Refused e))
 
+-- lent room enough, the answer is what the record's bytes deserve
+pub lent-checked : (net : Network) (held : List ℕ) (room : ℕ) (bytes : List ℕ) → Lent net held room
+    → checked net held room bytes ≡ answerTo (bytesFault (stands net) (costsOf (net .constant) held) bytes)
+unfolding checked
+lent-checked net held room bytes l =
+    rw (← (judged-entries net held (min (length held) room) (entries (stands net)) (by-parts net held .says (by-network net held .finds (l .network))) refl (omega (arith, l .held-whole, l .room-enough)))) refl
+
 pub kept-accepted : (net : Network) (held : List ℕ) (room : ℕ) (bytes : List ℕ) → Lent net held room → KeptBy (stands net) (costsOf (net .constant) held) bytes
     → checked net held room bytes ≡ Done
-unfolding checked
 kept-accepted net held room bytes l k =
-    rw (← (judged-entries net held (min (length held) room) (entries (stands net)) (by-parts net held .says (by-network net held .finds (l .network))) refl (omega (arith, l .held-whole, l .room-enough))))
-    (by-done (bytesFault (stands net) (costsOf (net .constant) held) bytes) .says (by-bytes (stands net) (costsOf (net .constant) held) bytes .finds k))
+    lent-checked net held room bytes l
+    ∙ by-done (bytesFault (stands net) (costsOf (net .constant) held) bytes) .says (by-bytes (stands net) (costsOf (net .constant) held) bytes .finds k)

@@ -1,13 +1,18 @@
 -- The place of a refusal is the first word at which the rules fail, in document 01's order. Assumes nothing.
-use Prim.Native.Nat.{ℕ, zero, suc, _+_}
-use mathlib.Core.Path.{_≡_, refl, ap}
+use Prim.Native.Nat.{ℕ, zero, suc, _+_, _/_}
+use mathlib.Core.Path.{_≡_, refl, sym, ap, _∙_}
 use mathlib.Core.Bool.{Bool, true, false, cond, not}
 use mathlib.Core.Logic.{_⊎_, inl, inr, ⊎-elim}
 use mathlib.Core.List.{List, [], _∷_, _++_}
 use mathlib.Core.Option.{Option, none}
 use native.Mathlib.Omega.{arith}
 use lib.Dec.{T, eqb}
-use Rattle.costs.specs.Net.{Net, Costs}
+use lib.ListN.{length}
+use Rattle.costs.specs.declared.networks.Network.{Network}
+use Rattle.costs.specs.declared.answers.Answer.the-variants.{BrokenRule}
+use Rattle.costs.specs.Answers.{numberOf, placeOf}
+use Rattle.costs.specs.Networks.{stands}
+use Rattle.costs.specs.Net.{Net, Costs, costsOf}
 use Rattle.costs.proofs.TestLaws.{Decides, is-true, is-false}
 use Rattle.records.specs.declared.steps.Step.{Step}
 use Rattle.records.specs.declared.steps.Spelt.{Spelt}
@@ -15,13 +20,14 @@ use Rattle.records.specs.declared.steps.Spelt.the-variants.{One, Nothing}
 use Rattle.records.specs.Steps.{stepWords, stepAt}
 use Rattle.records.specs.Trees.{TreeNode, root}
 use Rattle.records.specs.Rules.{Claim, May, nodesAfter, costsAfter}
+use Rattle.records.specs.Words.{wordBytes, wordAt}
 use Rattle.records.specs.Records.{headerWords, claims}
 use Rattle.desk.specs.declared.faults.Fault.{Fault}
-use Rattle.desk.specs.declared.faults.Fault.the-variants.{At}
-use Rattle.desk.specs.Faults.{Rule, faultIn}
-use Rattle.desk.specs.Checking.{may, onSpelt, stepsFault, countOf, headerRules, planRules, recordFault}
+use Rattle.desk.specs.declared.faults.Fault.the-variants.{Nowhere, At}
+use Rattle.desk.specs.Faults.{Rule, faultIn, answerTo}
+use Rattle.desk.specs.Checking.{may, onSpelt, stepsFault, countOf, headerRules, planRules, recordFault, wholeWords, bytesFault, checked}
 use Rattle.desk.proofs.FaultLaws.{AllKept}
-use Rattle.desk.proofs.CheckIsTheRules.{by-may}
+use Rattle.desk.proofs.CheckIsTheRules.{by-may, Lent, lent-checked}
 
 same-place : {w j : ℕ} → At w ≡ At j → w ≡ j
 same-place e = cc
@@ -118,3 +124,24 @@ unfolding recordFault
 place-record n held word many j h =
     place-rules (rulesOf n held word many) _ j
     (⊎-elim inl (λ k. inr (k .0, place-steps (claims n held word) (stepAt word) (word 7) (headerWords + countOf (n .vars) word) (root n ∷ []) none j (k .1))) h)
+
+-- the answer names that place: "a length under 64 or not a multiple of 8 gives 0", and else the record's words fail there
+broken-at : (f : Fault) (j : ℕ) → answerTo f ≡ BrokenRule j → f ≡ At j
+broken-at Nowhere j e = absurd (omega (arith, ap numberOf e))
+broken-at (At i) j e = ap At (ap placeOf e)
+
+bytes-place : (n : Net) (held : Costs) (bytes : List ℕ) (j : ℕ) → bytesFault n held bytes ≡ At j
+    → ((wholeWords (length bytes) ≡ false) × (j ≡ 0)) ⊎ ((wholeWords (length bytes) ≡ true) × (recordFault n held (wordAt bytes) (length bytes / wordBytes) ≡ At j))
+unfolding bytesFault
+bytes-place n held bytes j e = go (wholeWords (length bytes)) refl e
+  where
+    go : (b : Bool) → wholeWords (length bytes) ≡ b → cond b (recordFault n held (wordAt bytes) (length bytes / wordBytes)) (At 0) ≡ At j
+        → ((wholeWords (length bytes) ≡ false) × (j ≡ 0)) ⊎ ((wholeWords (length bytes) ≡ true) × (recordFault n held (wordAt bytes) (length bytes / wordBytes) ≡ At j))
+    go true q f = inr (q, f)
+    go false q f = inl (q, sym (same-place f))
+
+pub answer-place : (net : Network) (held : List ℕ) (room : ℕ) (bytes : List ℕ) (j : ℕ) → Lent net held room → checked net held room bytes ≡ BrokenRule j
+    → ((wholeWords (length bytes) ≡ false) × (j ≡ 0))
+    ⊎ ((wholeWords (length bytes) ≡ true) × (recordFault (stands net) (costsOf (net .constant) held) (wordAt bytes) (length bytes / wordBytes) ≡ At j))
+answer-place net held room bytes j lent e =
+    bytes-place (stands net) (costsOf (net .constant) held) bytes j (broken-at (bytesFault (stands net) (costsOf (net .constant) held) bytes) j (sym (lent-checked net held room bytes lent) ∙ e))

@@ -95,7 +95,7 @@ acceptedA : checked networkA tableA 14 (bytesOf wordsA) ≡ Done
 unfolding checked bytesFault recordFault headerRules planRules stepsFault may wordAt stepOf judged isNetwork rangesGood sizesGood variablesGood rowGood scopesGood stretchesGood costsGood price shifted isLegal gives inStretch fixed minus
 acceptedA = refl
 
--- one word of B's record changed: the claimed cost not below k, and another than the plan's; a value out of range; a branch of no variable, and of none that is
+-- B's record damaged: the claimed cost not below k, and another than the plan's; a value out of range; a step of no kind; a branch of a variable that is not
 -- there; a node closed 1 below the claim; a step after the tree; an unclosed tree, which "gives the count of words"
 damagedB : map checkedB (set wordsB 3 9 ∷ set wordsB 3 5 ∷ set wordsB 8 2 ∷ set wordsB 9 0 ∷ set wordsB 11 1 ∷ set wordsB 18 3 ∷ (set wordsB 7 6 ++ (5 ∷ 0 ∷ 0 ∷ 0 ∷ 0 ∷ [])) ∷ take 29 (set wordsB 7 4) ∷ [])
     ≡ BrokenRule 3 ∷ BrokenRule 3 ∷ BrokenRule 8 ∷ BrokenRule 9 ∷ BrokenRule 9 ∷ BrokenRule 19 ∷ BrokenRule 34 ∷ BrokenRule 29 ∷ []

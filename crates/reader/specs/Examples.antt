@@ -1,4 +1,4 @@
--- Networks A, B and C of document 01, "Reckoned by hand", computed from the definitions, and two more texts.
+-- Networks A, B and C of document 01, "Reckoned by hand", computed from the definitions, and three more texts.
 use Prim.Native.Nat.{ℕ}
 use mathlib.Core.Path.{_≡_, refl}
 use mathlib.Core.List.{List, [], _∷_}

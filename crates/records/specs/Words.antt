@@ -2,7 +2,6 @@
 use Prim.Native.Nat.{ℕ, zero, suc, _+_, _*_, _^_, _/_, _%_}
 use mathlib.Core.List.{List, [], _∷_, _++_}
 use lib.ListN.{getD}
-use lib.Seq.{sets}
 use Rattle.costs.specs.Range.{sumTo}
 
 -- eight bytes to a word, the lowest first
@@ -21,10 +20,6 @@ wordAt bytes w = wordOf (λ j. getD bytes (w * wordBytes + j) 0)
 abbrev pub bytesTo : ℕ → ℕ → List ℕ
 bytesTo zero x = []
 bytesTo (suc n) x = x % 256 ∷ bytesTo n (x / 256)
-
--- bytes with the eight of a word at word w
-unfoldable pub withWord : List ℕ → ℕ → ℕ → List ℕ
-withWord bytes w x = sets bytes (w * wordBytes) (bytesTo wordBytes x)
 
 -- one word after the other
 abbrev pub bytesOf : List ℕ → List ℕ

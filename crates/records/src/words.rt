@@ -3,7 +3,7 @@ ghost use mathlib.Core.Path.{_≡_};
 ghost use Prim.Native.Nat.{_+_, _*_, _^_, _≤_, _<_};
 ghost use lib.ListN.{length, getD};
 ghost use Rattle.costs.specs.Range.{sumTo};
-ghost use Rattle.records.specs.Words.{wordBytes, wordAt, withWord};
+ghost use Rattle.records.specs.Words.{wordBytes, wordAt};
 
 // Word w of a record.
 pub fn word_at(bytes: &[u8], w: usize) -> u64
@@ -32,19 +32,4 @@ fn wide(byte: u8) -> u64
     ensures { λ r. ⌜ (r ≡ byte) × (r < 256) ⌝ }
 {
     byte as u64
-}
-
-// A word at word w.
-pub fn put_word(bytes: &mut [u8], w: usize, word: u64)
-    requires { ⌜ w * wordBytes + wordBytes ≤ length (now bytes) ⌝ }
-    ensures { λ _. ⌜ now (bytes .exit) ≡ withWord (now (bytes .entry)) w word ⌝ }
-{
-    let at = w * 8;
-    let mut rest = word;
-    let mut j: usize = 0;
-    while j < 8 {
-        bytes[at + j] = (rest % 256) as u8;
-        rest = rest / 256;
-        j += 1;
-    }
 }

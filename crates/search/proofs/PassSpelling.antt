@@ -1,4 +1,4 @@
--- Legal shifts, removals and a Close spell a node. Assumes nothing.
+-- Legal shifts and a close spell a node. Assumes nothing.
 use Prim.Native.Nat.{ℕ, _≤_}
 use mathlib.Core.Path.{_≡_, refl, _∙_}
 use mathlib.Core.List.{List, [], _∷_, _++_, map, append-assoc}

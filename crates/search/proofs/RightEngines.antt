@@ -1,4 +1,4 @@
--- An engine that is right valueIn each node searches right: its answer is the first cheapest plan, whatever the gate, where the search comes to its end.
+-- An engine that is right at each node searches right: its answer is the first cheapest plan, whatever the gate, where the search comes to its end.
 -- Assumes nothing.
 use Prim.Native.Nat.{ℕ, zero, suc, _≤_, _<_}
 use mathlib.Core.Path.{_≡_, refl, ap}
@@ -23,11 +23,11 @@ use Rattle.records.specs.declared.steps.Step.{Step}
 use Rattle.search.specs.Engines.{Look, closes, finds, opens, State, Engine, Gate, foundAt, openedAt, endedBy, unless, taken, eachLive, visit, begin, searched}
 use Rattle.search.specs.Cheapest.{valueIn, Before, RightAnswer}
 
--- every plan that fits d costs b valueIn least
+-- every plan that fits d costs b at least
 abbrev pub Shut : Net → Costs → TreeNode → ℕ → Type 0
 Shut n held d b = (p : ℕ → ℕ) → Fits n (d .live) p → b ≤ price n held p
 
--- q fits d and costs c, below b; no plan that fits d costs less, and any other costs b valueIn least
+-- q fits d and costs c, below b; no plan that fits d costs less, and any other costs b at least
 pub record Found (n : Net) (held : Costs) (d : TreeNode) (b : ℕ) (q : List ℕ) (c : ℕ) : Type 0 where
   pub cheaper : c < b
   pub whole : length q ≡ n .vars
@@ -36,7 +36,7 @@ pub record Found (n : Net) (held : Costs) (d : TreeNode) (b : ℕ) (q : List ℕ
   pub least : (p : ℕ → ℕ) → Fits n (d .live) p → c ≤ price n held p
   pub only : (p : ℕ → ℕ) → Fits n (d .live) p → ((v : ℕ) → v < n .vars → p v ≡ valueIn q v) ⊎ (b ≤ price n held p)
 
--- d′ leaves out of d only plans of b valueIn least; i is free there, every variable below it is settled, and the children are as the engine wants them
+-- d′ leaves out of d only plans of b at least; i is free there, every variable below it is settled, and the children are as the engine wants them
 pub record Cut (n : Net) (held : Costs) (I : TreeNode → Type 0) (d : TreeNode) (b : ℕ) (d′ : TreeNode) (i : ℕ) : Type 0 where
   pub variable : i < n .vars
   pub free : d′ .branched i ≡ false
@@ -51,7 +51,7 @@ LookRight n held I d b (closes w) = Shut n held d b
 LookRight n held I d b (finds q c w) = Found n held d b q c
 LookRight n held I d b (opens w d′ i) = Cut n held I d b d′ i
 
--- an engine is right valueIn every node of I, and I holds of the root
+-- an engine is right at every node of I, and I holds of the root
 pub record Right (e : Engine) (held : Costs) (I : TreeNode → Type 0) : Type 0 where
   pub root : I (root (e .net))
   pub look : (d : TreeNode) (b : ℕ) → I d → LookRight (e .net) held I d b (e .look d b)
@@ -229,7 +229,7 @@ module _ (e : Engine) (held : Costs) (I : TreeNode → Type 0) (right : Right e 
         x : State
         x = eachTo (λ a x. cond (d′ .live i a) (f a x) x) c t
 
-    -- every plan that fits d costs b valueIn least, or fits d′ and has a value of i below the size
+    -- every plan that fits d costs b at least, or fits d′ and has a value of i below the size
     post-whole : (s t : State) → s .best ≡ b → Post N held (Part d′ i (N .size i)) s t → Post N held (Fits N (d .live)) s t
     post-whole s t e f = record {
       lower = λ p u. ⊎-elim (λ x. f .lower p (x, x .plan .range i (cut .variable))) (λ x. omega (arith, post-le N held f)) (cut .keeps p u);

@@ -88,7 +88,7 @@ module _ (n : Net) (good : Sound n) (held : Costs) (ok : held .base ≤ n .cap) 
       lives = λ v l. rw (list-at (n .vars) (λ v. firstTo (n .size v) (d .live v)) v l) (first-live v l .1);
     }
 
-    -- valueIn a settled node below the best its plan is found
+    -- at a settled node below the best its plan is found
     pub settled-found : (b : ℕ) → Settled n d → pass n (d .live) held .costs .base < b → Found n held d b (planOf n d) (pass n (d .live) held .costs .base)
     settled-found b one l = record {
       cheaper = l;
@@ -99,7 +99,7 @@ module _ (n : Net) (good : Sound n) (held : Costs) (ok : held .base ≤ n .cap) 
       only = λ p u. inl (λ v m. one v m (p v) (valueIn (planOf n d) v) (u .lives v m) (planOf-fits .lives v m));
     }
 
--- a Branch of the first variable that a test picks, where a variable that it leaves has one live value and one that it picks is not branched
+-- a branch of the first variable that a test picks, where a variable that it leaves has one live value and one that it picks is not branched
 pub cut-at : (n : Net) (held : Costs) (d : TreeNode) (b : ℕ) (t : ℕ → Bool) → Tidy n d → firstTo (n .vars) t < n .vars
     → ((v : ℕ) → v < n .vars → (T (t v) → ⊥) → (x y : ℕ) → T (d .live v x) → T (d .live v y) → x ≡ y)
     → ((v : ℕ) → v < n .vars → T (t v) → d .branched v ≡ false) → Cut n held (Tidy n) d b d (firstTo (n .vars) t)

@@ -1,4 +1,4 @@
--- An engine whose steps keep the rules valueIn each node writes a record that keeps them, and the node count is the record's own. Assumes nothing.
+-- An engine whose steps keep the rules at each node writes a record that keeps them, and the node count is the record's own. Assumes nothing.
 use Prim.Native.Nat.{ℕ, zero, suc, _+_, _≤_, _<_}
 use mathlib.Core.Path.{_≡_, refl, sym, ap}
 use mathlib.Core.Bool.{Bool, true, false, cond}
@@ -23,12 +23,12 @@ nodesIn-append (Branch i ∷ xs) ys = omega (arith, nodesIn-append xs ys)
 nodesIn-append (Shift x ∷ xs) ys = nodesIn-append xs ys
 nodesIn-append (Close ∷ xs) ys = omega (arith, nodesIn-append xs ys)
 
--- the steps Close the node d, under a claimOf of valueIn most b
+-- the steps close the node d, under a claim of at most b
 pub record Closing (r : Claim) (d : TreeNode) (b : ℕ) (w : List Step) : Type 0 where
   pub one : nodesIn w ≡ 1
   pub spells : r .cost ≤ b → (ds : List TreeNode) (ss : List Step) → Spells r ds none ss → Spells r (d ∷ ds) none (w ++ ss)
 
--- the steps lead from d to a Branch of i valueIn d′, under a claimOf of valueIn most b
+-- the steps lead from d to a branch of i at d′, under a claim of at most b
 pub record Leading (r : Claim) (d : TreeNode) (b : ℕ) (w : List Step) (d′ : TreeNode) (i : ℕ) : Type 0 where
   pub zero : nodesIn w ≡ 0
   pub spells : r .cost ≤ b → (ds : List TreeNode) (ss : List Step) → Spells r (children d′ i (r .net .size i) ds) none ss → Spells r (d ∷ ds) none (w ++ (Branch i ∷ ss))
@@ -38,7 +38,7 @@ LookWrites r d b (closes w) = Closing r d b w
 LookWrites r d b (finds q c w) = Closing r d c w
 LookWrites r d b (opens w d′ i) = Leading r d b w d′ i
 
--- the engine's steps keep the rules of the edition valueIn every node of I
+-- the engine's steps keep the rules of the edition at every node of I
 pub record Writes (e : Engine) (held : Costs) (I : TreeNode → Type 0) : Type 0 where
   pub look : (c : ℕ) (d : TreeNode) (b : ℕ) → I d → LookWrites (claimOf (e .net) held c) d b (e .look d b)
 
@@ -124,6 +124,6 @@ module _ (e : Engine) (held : Costs) (I : TreeNode → Type 0) (right : Right e 
   pub searched-keeps : Keeps (claimOf (e .net) held (searched e g .best)) (searched e g .steps)
   searched-keeps = rw (wrote .steps, ← (append-nil (wrote .new))) (wrote .spells [] [] tt)
 
-  -- "The node count equals the Branch and Close steps of the record"
+  -- "The node count equals the branch and close steps of the record"
   pub searched-count : searched e g .count ≡ nodesIn (searched e g .steps)
   searched-count = rw (wrote .steps) (omega (arith, wrote .count))

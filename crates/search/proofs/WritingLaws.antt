@@ -15,7 +15,7 @@ use Rattle.search.specs.FirstSearch.{budget}
 abbrev pub onto : List Step → State → State
 onto w s = record { best = s .best; plan = s .plan; count = s .count; steps = w ++ s .steps; ended = s .ended }
 
--- a gate that does not look valueIn what is written
+-- a gate that does not look at what is written
 abbrev pub Blind : Gate → Type 0
 Blind g = (w : List Step) (s : State) → g (onto w s) ≡ g s
 

@@ -1,6 +1,11 @@
 // The search on networks of three shapes, five of each, drawn by a fixed recurrence with costs below 50. A line for each: the cost and the nodes. stdout is what
 // hosts/search_speed/ordinary.rs prints, the ordinary search on the same networks that the time of this one is measured against.
 ghost use Prim.Native.Nat.{_≤_, _<_};
+ghost use Rattle.costs.specs.Limits.{entriesMost};
+use costs::limits::ENTRIES;
+use costs::limits::FUNCTIONS;
+use costs::limits::ROWS;
+use costs::limits::VARS;
 use costs::networks::Network;
 
 struct Shape {
@@ -72,21 +77,21 @@ fn search_shape(shape: Shape) {
 }
 
 fn search_drawn(shape: Shape, seed: u64) {
-    let mut scopes = [0u8; 1024];
+    let mut scopes = [0u8; ROWS];
     let after = draw_scopes(&mut scopes, shape, seed);
     let size = shape.size;
     let net = Network {
         top: 1_000_000_000,
         constant: 0,
         vars: shape.vars,
-        sizes: [size; 64],
+        sizes: [size; VARS],
         functions: shape.functions,
         scopes: scopes,
         starts: stretches(shape),
     };
-    let mut held = [0u64; 4096];
+    let mut held = [0u64; ENTRIES];
     draw_costs(&mut held, after);
-    let mut work = [0u64; 4096];
+    let mut work = [0u64; ENTRIES];
     let mut out = [0u8; 64];
     let found = search::search(net, &held, &mut work, &mut out, false, 1_000_000);
     tell(found.cost, b' ');
@@ -112,7 +117,7 @@ fn below(n: u64, many: u64) -> u64
     n % many % 64
 }
 
-fn draw_scopes(scopes: &mut [u8; 1024], shape: Shape, seed: u64) -> u64 {
+fn draw_scopes(scopes: &mut [u8; ROWS], shape: Shape, seed: u64) -> u64 {
     let vars = shape.vars as u64;
     let reach = shape.reach;
     let binary = shape.binary;
@@ -127,14 +132,14 @@ fn draw_scopes(scopes: &mut [u8; 1024], shape: Shape, seed: u64) -> u64 {
 }
 
 fn draw_scope(
-    scopes: &mut [u8; 1024],
+    scopes: &mut [u8; ROWS],
     vars: u64,
     reach: u64,
     binary: usize,
     f: usize,
     seed: u64,
 ) -> u64 {
-    if 256 <= f {
+    if FUNCTIONS <= f {
         return seed;
     }
     let first = next(seed);
@@ -154,15 +159,15 @@ fn arity(f: usize, binary: usize) -> u8 {
     if f < binary { 2 } else { 3 }
 }
 
-fn stretches(shape: Shape) -> [usize; 256] {
+fn stretches(shape: Shape) -> [usize; FUNCTIONS] {
     let binary = shape.binary;
     let pairs = shape.pairs;
     let triples = shape.triples;
-    let mut starts = [0usize; 256];
+    let mut starts = [0usize; FUNCTIONS];
     let mut at = shape.unary;
     let mut f: usize = 0;
-    while f < 256 {
-        if 4_096 < at {
+    while f < FUNCTIONS {
+        if ENTRIES < at {
             return starts;
         }
         starts[f] = at;
@@ -173,11 +178,11 @@ fn stretches(shape: Shape) -> [usize; 256] {
 }
 
 fn tuples(f: usize, binary: usize, pairs: usize, triples: usize) -> usize
-    ensures { λ r. ⌜ r ≤ 4_096 ⌝ }
+    ensures { λ r. ⌜ r ≤ entriesMost ⌝ }
 {
     let many = if f < binary { pairs } else { triples };
-    if 4_096 < many {
-        return 4_096;
+    if ENTRIES < many {
+        return ENTRIES;
     }
     many
 }

@@ -22,7 +22,7 @@ liveIn sizes fixed v b = says (getD fixed v 0) (getD sizes v 0) b
 abbrev pub liveAt : Network → Node → ℕ → ℕ → Bool
 liveAt net node = liveIn (net .sizes) (node .fixed)
 
--- "illegal node": each fixed value is below its variable's size
+-- a legal node: each fixed value is below its variable's size
 unfoldable pub nodeGood : ℕ → List ℕ → List ℕ → Bool
 nodeGood vars sizes fixed = allTo vars (λ v. leb (getD fixed v 0) (getD sizes v 0))
 

@@ -16,7 +16,7 @@ use costs::networks::byte_at;
 use costs::networks::row_at;
 use costs::networks::start_at;
 
-// Those at the node below this one that fixes i to a.
+// The live values of variable v at the node below this one that fixes i to a.
 fn child_span<'a>(sizes: &'a [u8; VARS], node: &'a [u8; VARS], i: usize, a: usize, v: usize) -> Span
     requires { ⌜ (v < varsMost) × (a < sizeMost) ⌝ }
     ensures { λ r. ⌜ r ≡ childSpan (now (sizes .entry)) (now (node .entry)) i a v ⌝ }

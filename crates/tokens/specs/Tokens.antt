@@ -18,11 +18,11 @@ unfoldable pub lead : (ℕ → Bool) → List ℕ → ℕ
 lead p [] = 0
 lead p (b ∷ s) = cond (p b) (suc (lead p s)) 0
 
--- the first position from `at` on whose byte does not pass, or the text's length
+-- the first position from `at` on whose byte does not pass; where all pass, the text's length, of an `at` that is not past it
 unfoldable pub past : (ℕ → Bool) → List ℕ → ℕ → ℕ
 past p s at = at + lead p (drop at s)
 
--- the next token from a position on: from the first dark byte up to the next white one. Where none is left, it starts and ends at the text's length
+-- the next token from a position on: from the first dark byte up to the next white one. Where none is left, it starts and ends there
 unfoldable pub tokenAt : List ℕ → ℕ → Token
 tokenAt s at = record { start = past white s at; end = past dark s (past white s at) }
 

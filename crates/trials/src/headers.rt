@@ -2,17 +2,17 @@
 ghost use Prim.Native.Nat.{_≤_};
 use console::IN;
 use console::fill;
+use costs::limits::FUNCTIONS;
+use costs::limits::VARS;
 
 // The call's own numbers and the words of a node are at most so many: those of a shift.
-pub const NUMBERS: usize = 70;
+pub const NUMBERS: usize = 6 + VARS;
 // A lent table has at most this many entries.
 pub const ROOM: usize = 5_000;
 // A record's buffer has at most this many bytes.
 pub const RECORD: usize = 400_000;
 // "header line 1,024 bytes"
 const LINE: usize = 1_024;
-// At most so many choices of a plan or words of a node are given.
-const GIVEN: usize = 64;
 
 pub enum Call {
     // the input has ended
@@ -256,9 +256,9 @@ pub fn fits(header: Header) -> bool {
         Call::Over => false,
         Call::Unknown => false,
         Call::Read => many == 2 && numbers[1] <= ROOM as u64,
-        Call::Price => 2 <= many && many <= 2 + GIVEN && bytes_from(&numbers, 2, many),
+        Call::Price => 2 <= many && many <= 2 + VARS && bytes_from(&numbers, 2, many),
         Call::Shift => 6 <= many && shift_fits(&numbers) && bytes_from(&numbers, 6, many),
-        Call::Pass => 1 <= many && many <= 1 + GIVEN && bytes_from(&numbers, 1, many),
+        Call::Pass => 1 <= many && many <= 1 + VARS && bytes_from(&numbers, 1, many),
         Call::Search => many == 4 && numbers[2] <= 1 && numbers[3] <= RECORD as u64,
         Call::Check => many == 2,
         Call::Show => many == 3 && numbers[1] <= 1,
@@ -306,10 +306,10 @@ fn lend_fits(numbers: &[u64; NUMBERS]) -> bool {
     }
     match numbers[3] {
         0 | 1 | 2 | 3 | 5 => true,
-        4 => place < 64 && value <= 255,
-        6 => place < 256 && value <= 255,
-        7 => place < 768 && value <= 255,
-        8 => place < 256,
+        4 => place < VARS as u64 && value <= 255,
+        6 => place < FUNCTIONS as u64 && value <= 255,
+        7 => place < FUNCTIONS as u64 * 3 && value <= 255,
+        8 => place < FUNCTIONS as u64,
         9 => place < held,
         10 => place < work,
         _ => false,

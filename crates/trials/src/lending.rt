@@ -1,6 +1,7 @@
 // What a frame is lent: the network as read beside tables of E + 2 entries; or, behind a `lend`, tables of the lengths that it asked for, and one number
 // replaced.
 ghost use Prim.Native.Nat.{_≤_};
+ghost use Rattle.costs.specs.Limits.{entriesMost};
 use crate::headers::Header;
 use crate::headers::ROOM;
 use costs::judging::Judged;
@@ -69,7 +70,7 @@ pub fn lengths_lent(net: Network, table: &[u64; ROOM], lent: Lent) -> Lengths {
 
 // E
 fn entries_of(net: Network, table: &[u64; ROOM]) -> usize
-    ensures { λ r. ⌜ r ≤ 4096 ⌝ }
+    ensures { λ r. ⌜ r ≤ entriesMost ⌝ }
 {
     let judged = judge(
         &net.sizes,

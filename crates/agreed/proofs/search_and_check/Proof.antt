@@ -1,3 +1,4 @@
+use mathlib.Core.Path.{refl}
 use Prim.Native.Nat.{_^_, _<_}
 use native.Mathlib.Omega.{arith}
 use lib.ListN.{length}
@@ -19,7 +20,15 @@ same-length-2 : tie.Need-same-length-2
 same-length-2 c = search needs
 
 returns : tie.Need-returns
-returns c = (rw (c .before .before .before .before .before .before .before .before .before .search .ensures .0), c .before .before .desk-answer .ensures .0, c .before .before .desk-answer .ensures .1 (c .before .before .before .before .before .before .before .before .before .search .ensures .1))
+returns c =
+    let s = c .before .before .before .before .before .before .before .before .before .before .before .before .before .before .before .args in
+    let found = c .before .before .before .before .before .before .before .before .before .search in
+    let few : length (s .out .now) < 2 ^ 64 = search (needs, c .before .before .before .before .before .before .before .before .before .before .before .before .before .before .before .good) in (
+      rw (found .ensures .0),
+      c .before .before .desk-answer .ensures .0,
+      filed-after (s .net) (s .held .now) (s .work .now) (s .out .now) (s .work .now) (found .last .1 .1 .1 .0) (s .budget) (found .result) refl few (found .ensures .0),
+      c .before .before .desk-answer .ensures .1 (found .ensures .1),
+    )
 
 pub search-and-check-spec : {M : Type 1} → statement M
 search-and-check-spec =
