@@ -48,6 +48,7 @@ fn call_read(text: &[u8], length: usize) {
     read_into(text, &mut table, length);
 }
 
+// Lends as much of the table as was asked for.
 fn read_into(text: &[u8], whole: &mut [u64], length: usize) {
     if whole.len() < length {
         return;
@@ -163,6 +164,7 @@ fn pass_free(net: Network, held: &[u64; ROOM], work: &mut [u64; ROOM]) {
     shifts::pass(net, held, work, free);
 }
 
+// Lends as much of each table as was asked for, which a header that fits keeps within its room.
 fn cut(
     header: Header,
     net: Network,
@@ -187,6 +189,7 @@ fn cut(
     );
 }
 
+// Makes the call on the tables that are lent.
 fn make(header: Header, net: Network, held: &mut [u64], work: &mut [u64], record: &[u8]) {
     let call = header.call;
     let many = header.many;
