@@ -9,37 +9,37 @@ use lib.Dec.{T, leb, leb→le, nleb→lt}
 use Rattle.costs.specs.Range.{sumTo}
 use Rattle.costs.specs.Cost.{plus, minus, plusTo}
 
-pub plus-comm : (k a b : ℕ) → plus k a b ≡ plus k b a
-plus-comm k a b = omega arith
+pub plus-comm : (top a b : ℕ) → plus top a b ≡ plus top b a
+plus-comm top a b = omega arith
 
-pub plus-assoc : (k a b c : ℕ) → plus k (plus k a b) c ≡ plus k a (plus k b c)
-plus-assoc k a b c = omega arith
+pub plus-assoc : (top a b c : ℕ) → plus top (plus top a b) c ≡ plus top a (plus top b c)
+plus-assoc top a b c = omega arith
 
-pub plus-mono : (k a b c d : ℕ) → a ≤ c → b ≤ d → plus k a b ≤ plus k c d
-plus-mono k a b c d h l = omega arith
+pub plus-mono : (top a b c d : ℕ) → a ≤ c → b ≤ d → plus top a b ≤ plus top c d
+plus-mono top a b c d h l = omega arith
 
-pub minus-cases : (k a b : ℕ) → ((k ≤ a) × (minus k a b ≡ k)) ⊎ ((a < k) × (minus k a b ≡ a - b))
+pub minus-cases : (top a b : ℕ) → ((top ≤ a) × (minus top a b ≡ top)) ⊎ ((a < top) × (minus top a b ≡ a - b))
 unfolding minus
-minus-cases k a b = go (leb k a) (leb→le k a) (nleb→lt k a)
+minus-cases top a b = go (leb top a) (leb→le top a) (nleb→lt top a)
   where
-    go : (t : Bool) → (T t → k ≤ a) → (T (not t) → a < k) → ((k ≤ a) × (cond t k (a - b) ≡ k)) ⊎ ((a < k) × (cond t k (a - b) ≡ a - b))
+    go : (t : Bool) → (T t → top ≤ a) → (T (not t) → a < top) → ((top ≤ a) × (cond t top (a - b) ≡ top)) ⊎ ((a < top) × (cond t top (a - b) ≡ a - b))
     go true f g = inl (f tt, refl)
     go false f g = inr (g tt, refl)
 
 -- what one place gives another takes: the capped total stays
-pub shift-cap : (k c u a rest : ℕ) → a ≤ c → min k (minus k c a + plus k u a + rest) ≡ min k (c + u + rest)
-shift-cap k c u a rest h = ⊎-elim (λ w. omega arith) (λ w. omega arith) (minus-cases k c a)
+pub shift-cap : (top c u a rest : ℕ) → a ≤ c → min top (minus top c a + plus top u a + rest) ≡ min top (c + u + rest)
+shift-cap top c u a rest h = ⊎-elim (λ w. omega arith) (λ w. omega arith) (minus-cases top c a)
 
 -- a fold of ⊕ is the capped sum
-pub plusTo-cap : (k z n : ℕ) (g : ℕ → ℕ) → plusTo k (plus k 0 z) n g ≡ min k (z + sumTo n g)
-plusTo-cap k z zero g = omega arith
-plusTo-cap k z (suc n) g = omega (arith, plusTo-cap k z n g)
+pub plusTo-cap : (top first n : ℕ) (g : ℕ → ℕ) → plusTo top (plus top 0 first) n g ≡ min top (first + sumTo n g)
+plusTo-cap top first zero g = omega arith
+plusTo-cap top first (suc n) g = omega (arith, plusTo-cap top first n g)
 
 -- at i + 1, as a loop has it
-pub plusTo-next : (k z i : ℕ) (g : ℕ → ℕ) → plusTo k z (i + 1) g ≡ plus k (plusTo k z i g) (g i)
-plusTo-next k z i g = rw add-one
+pub plusTo-next : (top first i : ℕ) (g : ℕ → ℕ) → plusTo top first (i + 1) g ≡ plus top (plusTo top first i g) (g i)
+plusTo-next top first i g = rw add-one
 
 -- in two turns
-pub plusTo-split : (k z m n : ℕ) (g : ℕ → ℕ) → plusTo k z (m + n) g ≡ plusTo k (plusTo k z m g) n (λ i. g (m + i))
-plusTo-split k z m zero g = let e : m + 0 ≡ m = omega arith in rw e
-plusTo-split k z m (suc n) g = let e : m + suc n ≡ suc (m + n) = omega arith in rw (e, plusTo-split k z m n g)
+pub plusTo-split : (top first m n : ℕ) (g : ℕ → ℕ) → plusTo top first (m + n) g ≡ plusTo top (plusTo top first m g) n (λ i. g (m + i))
+plusTo-split top first m zero g = let e : m + 0 ≡ m = omega arith in rw e
+plusTo-split top first m (suc n) g = let e : m + suc n ≡ suc (m + n) = omega arith in rw (e, plusTo-split top first m n g)

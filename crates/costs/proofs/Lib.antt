@@ -1,8 +1,6 @@
-pub mod AnswerLaws
 pub mod TestLaws
 pub mod RangeLaws
 pub mod CostLaws
+pub mod GivingLaws
 pub mod NetLaws
 pub mod RowLaws
-pub mod JudgeLaws
-pub mod PriceLaws

@@ -41,7 +41,7 @@ stretch-below n s l = sumTo-mono (λ r. tuples (n .size) (n .scope r)) (suc s) (
 
 pub touched-below : (n : Net) → Sound n → (p : ℕ → ℕ) → IsPlan n p → (s : ℕ) → s < n .parts → touched n p s < entries n
 touched-below n good p plan s l =
-    omega (arith, entry-lt (n .size) p (n .scope s) (All-map (plan .range) (n .scope s) (good .inside s l)), stretch-below n s l)
+    omega (arith, entry-lt (n .size) p (n .scope s) (All-map (plan .range) (n .scope s) (good .known s l)), stretch-below n s l)
 
 -- a variable's own stretch: as long as its size, and touched at its value
 pub tuples-unary : (n : Net) → Sound n → (v : ℕ) → v < n .vars → tuples (n .size) (n .scope v) ≡ n .size v
@@ -51,9 +51,9 @@ pub touched-unary : (n : Net) → Sound n → (p : ℕ → ℕ) (v : ℕ) → v 
 touched-unary n good p v l = rw (good .unary v l) (omega arith)
 
 -- the price is the capped plain sum
-pub price-capped : (n : Net) (c : Costs) (p : ℕ → ℕ) → price n c p ≡ min (n .cap) (c .base + sumTo (n .parts) (λ s. c .at (touched n p s)))
+pub price-capped : (n : Net) (c : Costs) (p : ℕ → ℕ) → price n c p ≡ min (n .top) (c .constant + sumTo (n .parts) (λ s. c .at (touched n p s)))
 unfolding price
-price-capped n c p = plusTo-cap (n .cap) (c .base) (n .parts) (λ s. c .at (touched n p s))
+price-capped n c p = plusTo-cap (n .top) (c .constant) (n .parts) (λ s. c .at (touched n p s))
 
 -- plans that agree cost the same
 entry-same : (size p q : ℕ → ℕ) (vs : List ℕ) → All (λ v. p v ≡ q v) vs → entry size p vs ≡ entry size q vs
@@ -62,5 +62,5 @@ entry-same size p q (v ∷ vs) h = rw (h .0, entry-same size p q vs (h .1))
 
 pub price-same : (n : Net) → Sound n → (c : Costs) (p q : ℕ → ℕ) → ((v : ℕ) → v < n .vars → p v ≡ q v) → price n c p ≡ price n c q
 price-same n good c p q h =
-    let e = sumTo-same (n .parts) (λ s. c .at (touched n q s)) (λ s. c .at (touched n p s)) (λ s l. rw (entry-same (n .size) p q (n .scope s) (All-map h (n .scope s) (good .inside s l)))) in
+    let e = sumTo-same (n .parts) (λ s. c .at (touched n q s)) (λ s. c .at (touched n p s)) (λ s l. rw (entry-same (n .size) p q (n .scope s) (All-map h (n .scope s) (good .known s l)))) in
     rw (price-capped n c p, price-capped n c q, e)

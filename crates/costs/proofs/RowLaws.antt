@@ -11,11 +11,12 @@ use lib.Dec.{ltb, lt→ltb, ltb→lt}
 use lib.ListN.{length, getD, take, drop, length-take}
 use Rattle.costs.specs.Limits.{varsMost, sizeMost, functionsMost}
 use Rattle.costs.specs.Range.{sumTo}
-use Rattle.costs.specs.Net.{Net, Sound, All, tuples, entry, start}
-use Rattle.costs.specs.Networks.{inRow, scopeIn, netOf, Scoped, Ready}
+use Rattle.costs.specs.Net.{Sound, All, tuples, entry, startOf}
+use Rattle.costs.specs.Networks.{inRow, scopeIn, scopesOf, sizesOf, functionStart, netOf, Scoped}
+use Rattle.costs.specs.declared.networks.Outline.{Outline}
 use Rattle.costs.proofs.TestLaws.{is-true, is-false}
 use Rattle.costs.proofs.RangeLaws.{sumTo-same}
-use Rattle.costs.proofs.NetLaws.{All-map, tuples-unary}
+use Rattle.costs.proofs.NetLaws.{All-map}
 
 -- what is left of a scope after its first j variables
 abbrev pub rest : (ℕ → ℕ) → ℕ → List ℕ
@@ -96,23 +97,23 @@ pub three-most : (j : ℕ) → j ≤ 3 → sizeMost ^ j ≤ sizeMost ^ 3
 three-most j l = pow-le-pow-right (omega arith) l
 
 -- a part's scope: a variable's own, and a function's
-pub scope-unary : (top vars functions : ℕ) (sizes rows : List ℕ) (v : ℕ) → v < vars → netOf top vars functions sizes rows .scope v ≡ v ∷ []
-scope-unary top vars functions sizes rows v l = rw (is-true (ltb v vars) (lt→ltb v vars l))
+pub scope-unary : (vars : ℕ) (rows : List ℕ) (v : ℕ) → v < vars → scopesOf vars rows v ≡ v ∷ []
+scope-unary vars rows v l = rw (is-true (ltb v vars) (lt→ltb v vars l))
 
-pub scope-function : (top vars functions : ℕ) (sizes rows : List ℕ) (f : ℕ) → netOf top vars functions sizes rows .scope (vars + f) ≡ scopeIn (inRow rows f)
-scope-function top vars functions sizes rows f =
+pub scope-function : (vars : ℕ) (rows : List ℕ) (f : ℕ) → scopesOf vars rows (vars + f) ≡ scopeIn (inRow rows f)
+scope-function vars rows f =
     let e : vars + f - vars ≡ f = omega arith in
     rw (is-false (ltb (vars + f) vars) (λ t. let l = ltb→lt (vars + f) vars t in omega arith), e)
 
 -- what holds of each variable's own scope and of each function's holds of each part's
-pub scope-all : (P : List ℕ → Type 0) (top vars functions : ℕ) (sizes rows : List ℕ) → ((v : ℕ) → v < vars → P (v ∷ [])) → ((f : ℕ) → f < functions → P (scopeIn (inRow rows f)))
-    → (s : ℕ) → s < vars + functions → P (netOf top vars functions sizes rows .scope s)
-scope-all P top vars functions sizes rows g h s l = elim (decLt s vars) [
-  | yes q ↦ rw (scope-unary top vars functions sizes rows s q) (g s q)
+pub scope-all : (P : List ℕ → Type 0) (vars functions : ℕ) (rows : List ℕ) → ((v : ℕ) → v < vars → P (v ∷ [])) → ((f : ℕ) → f < functions → P (scopeIn (inRow rows f)))
+    → (s : ℕ) → s < vars + functions → P (scopesOf vars rows s)
+scope-all P vars functions rows g h s l = elim (decLt s vars) [
+  | yes q ↦ rw (scope-unary vars rows s q) (g s q)
   | no q ↦
       let e : vars + (s - vars) ≡ s = omega arith in
       let x = h (s - vars) (omega arith) in
-      let y : P (netOf top vars functions sizes rows .scope (vars + (s - vars))) = rw (scope-function top vars functions sizes rows (s - vars)) x in
+      let y : P (scopesOf vars rows (vars + (s - vars))) = rw (scope-function vars rows (s - vars)) x in
       rw e at y
 ]
 
@@ -124,26 +125,23 @@ scope-filled row h = go (row 0) h
     go (suc arity) h = omega arith
 
 -- the judged numbers are a sound network
-pub scoped-sound : (top vars functions : ℕ) (sizes rows : List ℕ) → Scoped vars functions sizes rows → Sound (netOf top vars functions sizes rows)
-scoped-sound top vars functions sizes rows r = record {
-  unary = scope-unary top vars functions sizes rows;
-  inside = scope-all (All (λ v. v < vars)) top vars functions sizes rows (λ v l. (l, tt)) (r .known);
+pub scoped-sound : (o : Outline) (sizes rows : List ℕ) → Scoped (o .vars) (o .functions) sizes rows → Sound (netOf o sizes rows)
+scoped-sound o sizes rows r = record {
+  unary = scope-unary (o .vars) rows;
+  known = scope-all (All (λ v. v < o .vars)) (o .vars) (o .functions) rows (λ v l. (l, tt)) (r .known);
   enough = omega arith;
-  filled = scope-all (λ vs. 0 < length vs) top vars functions sizes rows (λ v l. omega arith) (λ f l. scope-filled (inRow rows f) (r .arity-least f l));
+  filled = scope-all (λ vs. 0 < length vs) (o .vars) (o .functions) rows (λ v l. omega arith) (λ f l. scope-filled (inRow rows f) (r .arity-least f l));
   sized = r .sized;
 }
 
 -- the functions begin where the unary stretches end, and each begins where the one before it ends
-pub start-unary : (top vars functions : ℕ) (sizes rows : List ℕ) → Scoped vars functions sizes rows → start (netOf top vars functions sizes rows) vars ≡ sumTo vars (λ v. getD sizes v 0)
-start-unary top vars functions sizes rows r =
-    let n = netOf top vars functions sizes rows in
-    sumTo-same vars (λ v. getD sizes v 0) (λ v. tuples (n .size) (n .scope v)) (tuples-unary n (scoped-sound top vars functions sizes rows r))
+pub start-unary : (vars : ℕ) (sizes rows : List ℕ) → startOf (sizesOf sizes) (scopesOf vars rows) vars ≡ sumTo vars (sizesOf sizes)
+start-unary vars sizes rows = sumTo-same vars (sizesOf sizes) (λ v. tuples (sizesOf sizes) (scopesOf vars rows v)) (λ v l. rw (scope-unary vars rows v l) (omega arith))
 
-pub start-function : (top vars functions : ℕ) (sizes rows : List ℕ) (f : ℕ)
-    → start (netOf top vars functions sizes rows) (vars + (f + 1)) ≡ start (netOf top vars functions sizes rows) (vars + f) + tuples (λ v. getD sizes v 0) (scopeIn (inRow rows f))
-start-function top vars functions sizes rows f =
+pub start-function : (vars : ℕ) (sizes rows : List ℕ) (f : ℕ) → functionStart vars sizes rows (f + 1) ≡ functionStart vars sizes rows f + tuples (sizesOf sizes) (scopeIn (inRow rows f))
+start-function vars sizes rows f =
     let e : vars + (f + 1) ≡ suc (vars + f) = omega arith in
-    rw (e, scope-function top vars functions sizes rows f)
+    rw (e, scope-function vars rows f)
 
 -- a scope of few variables has few tuples
 tuples-power : (size : ℕ → ℕ) (d : ℕ) (vs : List ℕ) → All (λ v. size v ≤ d) vs → tuples size vs ≤ d ^ length vs

@@ -2,14 +2,14 @@
 use Prim.Native.Nat.{ℕ, zero, suc, _≤_, _<_}
 use mathlib.Core.Path.{_≡_, refl, sym}
 use mathlib.Core.Bool.{Bool, true, false, cond, not, _&&_, _||_}
-use mathlib.Core.Logic.{_⊎_, inl, inr, ⊎-elim}
+use mathlib.Core.Logic.{_⊎_, _≢_, inl, inr, ⊎-elim}
 use mathlib.Core.List.{List, [], _∷_}
 use native.Mathlib.Omega.{arith}
 use native.Mathlib.Decide.{ℕ-discrete}
 use lib.Dec.{T, leb, ltb, eqb, leb→le, le→leb, ltb→lt, lt→ltb, eqb→eq, eqb-refl}
 use Rattle.costs.specs.Range.{allTo}
 use Rattle.costs.specs.Net.{All}
-use Rattle.costs.specs.Judging.{every}
+use Rattle.costs.specs.Tests.{Decides, between, every, among, different, Different}
 
 pub is-true : (b : Bool) → T b → b ≡ true
 is-true true t = refl
@@ -36,11 +36,6 @@ both false b t = absurd t
 pub and : (a b : Bool) → T a → T b → T (a && b)
 and true b s t = t
 and false b s t = absurd s
-
--- a test and what it says
-pub record Decides (b : Bool) (A : Type 0) : Type 0 where
-  pub says : T b → A
-  pub finds : A → T b
 
 -- as a function that returns a flag has it
 pub yes-by : {b : Bool} {A : Type 0} → Decides b A → A → true ≡ b
@@ -84,3 +79,17 @@ by-all (suc n) t A d =
 pub by-every : (t : ℕ → Bool) (A : ℕ → Type 0) → ((v : ℕ) → Decides (t v) (A v)) → (vs : List ℕ) → Decides (every t vs) (All A vs)
 by-every t A d [] = record { says = λ x. tt; finds = λ h. tt }
 by-every t A d (v ∷ vs) = by-and (d v) (by-every t A d vs)
+
+pub by-between : (lo hi x : ℕ) → Decides (between lo hi x) ((lo ≤ x) × (x ≤ hi))
+by-between lo hi x = by-and (by-leb lo x) (by-leb x hi)
+
+by-absent : (v : ℕ) (vs : List ℕ) → Decides (not (among v vs)) (All (λ w. v ≢ w) vs)
+by-absent v [] = record { says = λ x. tt; finds = λ h. tt }
+by-absent v (w ∷ ws) =
+    by-map (λ h. ((λ e. h (inl e)), by-absent v ws .says (by-not (among v ws) (by-self (among v ws)) .finds (λ x. h (inr x)))))
+    (λ h. ⊎-elim (λ e. h .0 e) (λ x. by-not (among v ws) (by-self (among v ws)) .says (by-absent v ws .finds (h .1)) x))
+    (by-not (eqb v w || among v ws) (by-or (eqb v w) (among v ws) (by-eqb v w) (by-self (among v ws))))
+
+pub by-different : (vs : List ℕ) → Decides (different vs) (Different vs)
+by-different [] = record { says = λ x. tt; finds = λ h. tt }
+by-different (v ∷ vs) = by-and (by-absent v vs) (by-different vs)

@@ -2,9 +2,7 @@ pub mod Limits
 pub mod Range
 pub mod Cost
 pub mod Net
-pub mod Answers
+pub mod Tests
 pub mod Networks
-pub mod Judging
-pub mod Plans
-pub mod Prices
-pub mod Examples
+pub mod Cheapest
+pub mod PaperNetworks

@@ -1,5 +1,5 @@
 -- Document 01's limits of a network, each once. `src/limits.rt` has the same numbers for the code.
-use Prim.Native.Nat.{ℕ}
+use Prim.Native.Nat.{ℕ, suc}
 
 -- "N (0 to 64)"
 abbrev pub varsMost : ℕ
@@ -8,6 +8,14 @@ varsMost = 64
 -- "N domain sizes, 1 to 16"
 abbrev pub sizeMost : ℕ
 sizeMost = 16
+
+-- "arity 0 to 3"
+abbrev pub arityMost : ℕ
+arityMost = 3
+
+-- a function's row: its arity, then its variables
+abbrev pub rowPlaces : ℕ
+rowPlaces = suc arityMost
 
 -- "number of functions (0 to 256)"
 abbrev pub functionsMost : ℕ

@@ -8,13 +8,13 @@ use Rattle.costs.specs.Cost.{plus, plusTo}
 use Rattle.costs.specs.Range.{sumTo, productTo}
 
 pub record Net : Type 0 where
-  pub cap : ℕ
+  pub top : ℕ
   pub vars : ℕ
   pub parts : ℕ
   pub size : ℕ → ℕ
   pub scope : ℕ → List ℕ
 
--- P holds of each of a list
+-- P holds of each number of a list
 abbrev pub All : (ℕ → Type 0) → List ℕ → Type 0
 All P [] = Unit {0}
 All P (v ∷ vs) = P v × All P vs
@@ -22,7 +22,7 @@ All P (v ∷ vs) = P v × All P vs
 -- what every network has, whatever its limits
 pub record Sound (n : Net) : Type 0 where
   pub unary : (i : ℕ) → i < n .vars → n .scope i ≡ i ∷ []
-  pub inside : (s : ℕ) → s < n .parts → All (λ v. v < n .vars) (n .scope s)
+  pub known : (s : ℕ) → s < n .parts → All (λ v. v < n .vars) (n .scope s)
   pub enough : n .vars ≤ n .parts
   pub filled : (s : ℕ) → s < n .parts → 0 < length (n .scope s)
   pub sized : (v : ℕ) → v < n .vars → 0 < n .size v
@@ -38,8 +38,11 @@ entry size p [] = 0
 entry size p (v ∷ vs) = p v * tuples size vs + entry size p vs
 
 -- where part s begins: "first the unary stretches by variable, then the functions by number"
+abbrev pub startOf : (ℕ → ℕ) → (ℕ → List ℕ) → ℕ → ℕ
+startOf size scope s = sumTo s (λ r. tuples size (scope r))
+
 abbrev pub start : Net → ℕ → ℕ
-start n s = sumTo s (λ r. tuples (n .size) (n .scope r))
+start n s = startOf (n .size) (n .scope) s
 
 -- "E, the entries in all"
 abbrev pub entries : Net → ℕ
@@ -51,11 +54,11 @@ touched n p s = start n s + entry (n .size) p (n .scope s)
 
 -- the constant, and the table as a function of the place
 pub record Costs : Type 0 where
-  pub base : ℕ
+  pub constant : ℕ
   pub at : ℕ → ℕ
 
 abbrev pub costsOf : ℕ → List ℕ → Costs
-costsOf z t = record { base = z; at = λ j. getD t j 0 }
+costsOf constant t = record { constant = constant; at = λ j. getD t j 0 }
 
 -- a plan of this network
 pub record IsPlan (n : Net) (p : ℕ → ℕ) : Type 0 where
@@ -67,4 +70,4 @@ plans n = productTo (n .vars) (n .size)
 
 -- "Its price is the constant ⊕ its unary costs ⊕ its function costs"
 unfoldable pub price : Net → Costs → (ℕ → ℕ) → ℕ
-price n c p = plusTo (n .cap) (plus (n .cap) 0 (c .base)) (n .parts) (λ s. c .at (touched n p s))
+price n c p = plusTo (n .top) (plus (n .top) 0 (c .constant)) (n .parts) (λ s. c .at (touched n p s))

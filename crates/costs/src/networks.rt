@@ -2,10 +2,11 @@
 ghost use mathlib.Core.Path.{_≡_};
 ghost use Prim.Native.Nat.{_<_};
 ghost use lib.ListN.{getD};
-ghost use Rattle.costs.specs.Limits.{varsMost, functionsMost};
+ghost use Rattle.costs.specs.Limits.{varsMost, rowPlaces, functionsMost};
 ghost use Rattle.costs.specs.Net.{tuples};
-ghost use Rattle.costs.specs.Networks.{Scoped, inRow, scopeIn};
+ghost use Rattle.costs.specs.Networks.{inRow, scopeIn, Scoped};
 use crate::limits::FUNCTIONS;
+use crate::limits::ROW;
 use crate::limits::ROWS;
 use crate::limits::VARS;
 
@@ -27,7 +28,21 @@ pub struct Network {
     pub starts: [usize; FUNCTIONS],
 }
 
-fn wide(x: u8) -> usize
+// The numbers of a network that always travel together.
+pub struct Outline {
+    // the bound k
+    pub top: u64,
+    // the constant among the held costs
+    pub constant: u64,
+    // N
+    pub vars: usize,
+    // how many functions are numbered
+    pub functions: usize,
+    // E
+    pub entries: usize,
+}
+
+pub fn wide(x: u8) -> usize
     ensures { λ r. ⌜ r ≡ x ⌝ }
 {
     x as usize
@@ -43,10 +58,10 @@ pub fn byte_at(bytes: &[u8; VARS], v: usize) -> usize
 
 // Place j of function f's row.
 pub fn row_at(scopes: &[u8; ROWS], f: usize, j: usize) -> usize
-    requires { ⌜ (f < functionsMost) × (j < 4) ⌝ }
+    requires { ⌜ (f < functionsMost) × (j < rowPlaces) ⌝ }
     ensures { λ r. ⌜ r ≡ inRow (now (scopes .entry)) f j ⌝ }
 {
-    wide(scopes[f * 4 + j])
+    wide(scopes[f * ROW + j])
 }
 
 // Where function f's stretch begins.

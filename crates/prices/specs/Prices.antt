@@ -1,0 +1,37 @@
+-- What `price` answers: 8, 7, 9, or the plan's price. "Beside a refusal and its place, everything returned is zero."
+use Prim.Native.Nat.{ℕ}
+use mathlib.Core.Bool.{cond}
+use mathlib.Core.List.{List}
+use lib.Dec.{ltb, eqb}
+use lib.ListN.{length}
+use Rattle.costs.specs.declared.networks.Network.{Network}
+use Rattle.costs.specs.declared.plans.Plan.{Plan}
+use Rattle.prices.specs.declared.prices.Priced.{Priced}
+use Rattle.answers.specs.declared.Answer.{Answer}
+use Rattle.answers.specs.declared.Answer.the-variants.{Done, BadPlan}
+use Rattle.judging.specs.declared.Judged.{Judged}
+use Rattle.judging.specs.declared.Judged.the-variants.{Fit, Refused}
+use Rattle.costs.specs.Net.{price, costsOf}
+use Rattle.costs.specs.Networks.{stands}
+use Rattle.costs.specs.Cheapest.{valueIn}
+use Rattle.judging.specs.Judging.{judged, refusalOf}
+use Rattle.prices.specs.Plans.{firstBad}
+
+abbrev pub refusedPrice : Answer → Priced
+refusedPrice a = record { answer = a; price = 0 }
+
+-- "plan of another length, or a value out of range": "first bad variable, or 0 for length"
+unfoldable pub planPriced : Network → List ℕ → Plan → Priced
+planPriced net t plan =
+    cond (eqb (plan .len) (net .vars))
+    (cond (ltb (firstBad (net .vars) (net .sizes) (plan .choice)) (net .vars))
+    (refusedPrice (BadPlan (firstBad (net .vars) (net .sizes) (plan .choice))))
+    (record { answer = Done; price = price (stands net) (costsOf (net .constant) t) (valueIn (plan .choice)) }))
+    (refusedPrice (BadPlan 0))
+
+abbrev pub afterJudge : Judged → Priced → Priced
+afterJudge (Fit o) r = r
+afterJudge (Refused why) r = refusedPrice (refusalOf why)
+
+unfoldable pub priced : Network → List ℕ → Plan → Priced
+priced net t plan = afterJudge (judged net t (length t)) (planPriced net t plan)
