@@ -1,17 +1,7 @@
-pub mod LoopLaws
-pub mod PlaceLaws
-pub mod TableLaws
-pub mod GivingLaws
-pub mod BoxLaws
 pub mod NodeLaws
 pub mod ShiftsKeepPrices
 pub mod LegalTests
-pub mod PassIsLegal
-pub mod PassIsExact
 pub mod PartLaws
 pub mod MoveLaws
-pub mod TurnLaws
-pub mod PassLength
-pub mod PassStaysBelow
 pub mod DoorLaws
 pub mod OneOutcome

@@ -1,7 +1,7 @@
 -- Laws of nodes: which tuples are live, and where a plan touches the table. Over any arity. Assumes nothing.
 use Prim.Native.Nat.{ℕ, zero, suc, _+_, _≤_, _<_}
 use mathlib.Core.Path.{_≡_, refl}
-use mathlib.Core.Bool.{Bool, true, false, cond}
+use mathlib.Core.Bool.{Bool, true, false, cond, _&&_}
 use mathlib.Core.Logic.{_⊎_, inl, inr, ⊎-elim, _≢_}
 use mathlib.Core.List.{List, [], _∷_}
 use native.Mathlib.Omega.{arith}
@@ -12,13 +12,15 @@ use lib.ListN.{getD}
 use Rattle.costs.specs.declared.networks.Network.{Network}
 use Rattle.costs.specs.Net.{Net, Sound, IsPlan, All, tuples, entry, start, entries, touched}
 use Rattle.costs.specs.Networks.{stands}
-use Rattle.costs.specs.Judging.{among}
-use Rattle.costs.proofs.TestLaws.{Decides, is-true, is-false, same-test, both, and, by-or, by-eqb, by-self, by-leb, by-all, by-map}
+use Rattle.costs.specs.Tests.{among, Decides}
+use Rattle.costs.proofs.TestLaws.{is-true, is-false, same-test, both, and, by-or, by-eqb, by-self, by-leb, by-all, by-map}
 use Rattle.costs.proofs.RangeLaws.{sumTo-mono}
 use Rattle.costs.proofs.NetLaws.{All-map, entry-lt, stretch-below}
+use Rattle.boxes.proofs.PlaceLaws.{inStretch-range, inStretch-at, inStretch-entry}
+use Rattle.boxes.proofs.LoopLaws.{leastTo-cap, leastTo-le}
 use Rattle.shifts.specs.declared.nodes.Node.{Node}
-use Rattle.shifts.specs.Nodes.{says, liveAt, nodeGood, IsNode, fixed, liveEntry, livePlan, hit, Fits}
-use Rattle.shifts.proofs.PlaceLaws.{inStretch-range, inStretch-at}
+use Rattle.shifts.specs.Nodes.{liveBy, liveAt, nodeGood, IsNode, fixing, liveEntry, hit, Fits, least}
+use Rattle.shifts.specs.Moves.{Gives}
 
 -- a member is the first or one of the rest
 pub among-cases : (i v : ℕ) (vs : List ℕ) → T (among i (v ∷ vs)) → (i ≡ v) ⊎ T (among i vs)
@@ -39,6 +41,11 @@ pub All-both : (P Q : ℕ → Type 0) (vs : List ℕ) → All P vs → All Q vs 
 All-both P Q [] h k = tt
 All-both P Q (v ∷ vs) h k = ((h .0, k .0), All-both P Q vs (h .1) (k .1))
 
+-- a plan's tuple on a scope is live
+abbrev pub livePlan : (ℕ → ℕ → Bool) → (ℕ → ℕ) → List ℕ → Bool
+livePlan live p [] = true
+livePlan live p (v ∷ vs) = live v (p v) && livePlan live p vs
+
 -- the tuple of a plan's entry is the plan's
 pub entry-live : (size p : ℕ → ℕ) (live : ℕ → ℕ → Bool) (vs : List ℕ) → All (λ v. p v < size v) vs → liveEntry size live vs (entry size p vs) ≡ livePlan live p vs
 entry-live size p live [] h = refl
@@ -54,47 +61,47 @@ livePlan-one live p i [] m t = absurd m
 livePlan-one live p i (v ∷ vs) m t = ⊎-elim (λ e. rw e (both (live v (p v)) _ t .0)) (λ r. livePlan-one live p i vs r (both (live v (p v)) _ t .1)) (among-cases i v vs m)
 
 -- the node that fixes i to a
-pub fixed-here : (live : ℕ → ℕ → Bool) (i a b : ℕ) → fixed live i a i b ≡ eqb b a
-unfolding fixed
-fixed-here live i a b = rw (is-true (eqb i i) (eqb-refl i))
+pub fixing-here : (live : ℕ → ℕ → Bool) (i a b : ℕ) → fixing live i a i b ≡ eqb b a
+unfolding fixing
+fixing-here live i a b = rw (is-true (eqb i i) (eqb-refl i))
 
-pub fixed-keeps : (live : ℕ → ℕ → Bool) (p : ℕ → ℕ) (i a v : ℕ) → T (eqb (p i) a) → T (live v (p v)) → T (fixed live i a v (p v))
-unfolding fixed
-fixed-keeps live p i a v e h = go (eqb v i) (eqb→eq v i)
+pub fixing-keeps : (live : ℕ → ℕ → Bool) (p : ℕ → ℕ) (i a v : ℕ) → T (eqb (p i) a) → T (live v (p v)) → T (fixing live i a v (p v))
+unfolding fixing
+fixing-keeps live p i a v e h = go (eqb v i) (eqb→eq v i)
   where
     go : (t : Bool) → (T t → v ≡ i) → T (cond t (eqb (p v) a) (live v (p v)))
     go true q = rw (q tt) e
     go false q = h
 
 -- what is live there was live, where a was
-pub fixed-live : (live : ℕ → ℕ → Bool) (i a v b : ℕ) → T (live i a) → T (fixed live i a v b) → T (live v b)
-unfolding fixed
-fixed-live live i a v b h t = go (eqb v i) (eqb→eq v i) t
+pub fixing-live : (live : ℕ → ℕ → Bool) (i a v b : ℕ) → T (live i a) → T (fixing live i a v b) → T (live v b)
+unfolding fixing
+fixing-live live i a v b h t = go (eqb v i) (eqb→eq v i) t
   where
     go : (x : Bool) → (T x → v ≡ i) → T (cond x (eqb b a) (live v b)) → T (live v b)
     go true q t = rw (q tt, eqb→eq b a t) h
     go false q t = t
 
 -- there a fitting plan's tuple on a scope that has i is live where i's value is a
-pub fixed-plan : (live : ℕ → ℕ → Bool) (p : ℕ → ℕ) (i a : ℕ) (vs : List ℕ) → All (λ v. T (live v (p v))) vs → T (among i vs) → livePlan (fixed live i a) p vs ≡ eqb (p i) a
-fixed-plan live p i a vs h m =
+pub fixing-plan : (live : ℕ → ℕ → Bool) (p : ℕ → ℕ) (i a : ℕ) (vs : List ℕ) → All (λ v. T (live v (p v))) vs → T (among i vs) → livePlan (fixing live i a) p vs ≡ eqb (p i) a
+fixing-plan live p i a vs h m =
     same-test _ _
-    (λ t. rw fixed-here at (livePlan-one (fixed live i a) p i vs m t))
-    (λ t. livePlan-all (fixed live i a) p vs (All-map (λ v. fixed-keeps live p i a v t) vs h))
+    (λ t. rw fixing-here at (livePlan-one (fixing live i a) p i vs m t))
+    (λ t. livePlan-all (fixing live i a) p vs (All-map (λ v. fixing-keeps live p i a v t) vs h))
 
 -- which plans fit it: those of the node above that give i the value a
-pub fits-below : (n : Net) (live : ℕ → ℕ → Bool) (i a : ℕ) (p : ℕ → ℕ) → p i ≡ a → Fits n live p → Fits n (fixed live i a) p
-fits-below n live i a p e f = record { plan = f .plan; lives = λ v l. fixed-keeps live p i a v (rw e (eqb-refl a)) (f .lives v l) }
+pub fits-below : (n : Net) (live : ℕ → ℕ → Bool) (i a : ℕ) (p : ℕ → ℕ) → p i ≡ a → Fits n live p → Fits n (fixing live i a) p
+fits-below n live i a p e f = record { plan = f .plan; lives = λ v l. fixing-keeps live p i a v (rw e (eqb-refl a)) (f .lives v l) }
 
-pub fits-above : (n : Net) (live : ℕ → ℕ → Bool) (i a : ℕ) (p : ℕ → ℕ) → T (live i a) → Fits n (fixed live i a) p → Fits n live p
-fits-above n live i a p h f = record { plan = f .plan; lives = λ v l. fixed-live live i a v (p v) h (f .lives v l) }
+pub fits-above : (n : Net) (live : ℕ → ℕ → Bool) (i a : ℕ) (p : ℕ → ℕ) → T (live i a) → Fits n (fixing live i a) p → Fits n live p
+fits-above n live i a p h f = record { plan = f .plan; lives = λ v l. fixing-live live i a v (p v) h (f .lives v l) }
 
-pub fits-value : (n : Net) (live : ℕ → ℕ → Bool) (i a : ℕ) (p : ℕ → ℕ) → i < n .vars → Fits n (fixed live i a) p → p i ≡ a
-fits-value n live i a p l f = eqb→eq (p i) a (rw fixed-here at (f .lives i l))
+pub fits-value : (n : Net) (live : ℕ → ℕ → Bool) (i a : ℕ) (p : ℕ → ℕ) → i < n .vars → Fits n (fixing live i a) p → p i ≡ a
+fits-value n live i a p l f = eqb→eq (p i) a (rw fixing-here at (f .lives i l))
 
 module _ (n : Net) (good : Sound n) (p : ℕ → ℕ) (plan : IsPlan n p) where
   within : (s : ℕ) → s < n .parts → All (λ v. p v < n .size v) (n .scope s)
-  within s l = All-map (plan .range) (n .scope s) (good .inside s l)
+  within s l = All-map (plan .range) (n .scope s) (good .known s l)
 
   -- at its own part the touched place is live as the plan's tuple is
   pub hit-own : (live : ℕ → ℕ → Bool) (s : ℕ) → s < n .parts → hit n live s (touched n p s) ≡ livePlan live p (n .scope s)
@@ -113,7 +120,7 @@ pub hit-past : (n : Net) (live : ℕ → ℕ → Bool) (s j : ℕ) → s < n .pa
 hit-past n live s j l h = is-false _ (λ t. omega (arith, inStretch-range _ _ _ j t, stretch-below n s l))
 
 -- a legal node: the test finds what the rule says of live values
-by-byte : (x size : ℕ) → Decides (leb x size) ((b : ℕ) → T (says x size b) → b < size)
+by-byte : (x size : ℕ) → Decides (leb x size) ((b : ℕ) → T (liveBy x size b) → b < size)
 by-byte zero size = record { says = λ t b. ltb→lt b size; finds = λ h. le→leb 0 size (omega arith) }
 by-byte (suc a) size = record {
   says = λ t b e. omega (arith, eqb→eq b a e, leb→le (suc a) size t);
@@ -124,8 +131,19 @@ pub by-node : (net : Network) (node : Node) → Decides (nodeGood (net .vars) (n
 unfolding nodeGood
 by-node net node =
     by-map (λ h. record { below = λ v b l. h v l b }) (λ h v l b. h .below v b l)
-    (by-all (net .vars) _ (λ v. (b : ℕ) → T (says (getD (node .fixed) v 0) (getD (net .sizes) v 0) b) → b < getD (net .sizes) v 0) (λ v. by-byte (getD (node .fixed) v 0) (getD (net .sizes) v 0)))
+    (by-all (net .vars) _ (λ v. (b : ℕ) → T (liveBy (getD (node .fixed) v 0) (getD (net .sizes) v 0) b) → b < getD (net .sizes) v 0) (λ v. by-byte (getD (node .fixed) v 0) (getD (net .sizes) v 0)))
 
 pub by-bytes : (vars : ℕ) (sizes fx : List ℕ) → Decides (nodeGood vars sizes fx) ((v : ℕ) → v < vars → getD fx v 0 ≤ getD sizes v 0)
 unfolding nodeGood
 by-bytes vars sizes fx = by-all vars (λ v. leb (getD fx v 0) (getD sizes v 0)) (λ v. getD fx v 0 ≤ getD sizes v 0) (λ v. by-leb (getD fx v 0) (getD sizes v 0))
+
+-- each live tuple costs at least the least
+pub least-gives : (n : Net) (live : ℕ → ℕ → Bool) (t : ℕ → ℕ) (s : ℕ) → Gives n live t s (least n live t s)
+unfolding least
+least-gives n live t s j here =
+    let h = inStretch-entry _ _ _ j here in
+    rw (h .3) (leastTo-le (n .top) (liveEntry (n .size) live (n .scope s)) (λ e. t (start n s + e)) (tuples (n .size) (n .scope s)) (h .0) (h .1) (h .2))
+
+pub least-cap : (n : Net) (live : ℕ → ℕ → Bool) (t : ℕ → ℕ) (s : ℕ) → least n live t s ≤ n .top
+unfolding least
+least-cap n live t s = leastTo-cap (n .top) (liveEntry (n .size) live (n .scope s)) _ (tuples (n .size) (n .scope s))

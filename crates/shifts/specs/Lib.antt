@@ -1,10 +1,4 @@
-pub mod Loops
-pub mod Places
-pub mod Boxes
 pub mod Nodes
 pub mod Moves
-pub mod Passing
-pub mod Turns
-pub mod Parts
 pub mod Doors
-pub mod Examples
+pub mod ties

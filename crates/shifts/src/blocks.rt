@@ -1,17 +1,18 @@
 // A function's block at a node, and where a variable's unary stretch begins.
-ghost use mathlib.Core.Path.{_≡_};
 ghost use Prim.Native.Nat.{ℕ, _+_, _≤_, _<_};
+ghost use mathlib.Core.Path.{_≡_};
 ghost use lib.ListN.{getD};
 ghost use Rattle.costs.specs.Limits.{varsMost, sizeMost};
 ghost use Rattle.costs.specs.Networks.{netOf, Ready};
-ghost use Rattle.shifts.specs.Nodes.{liveIn, fixed};
-ghost use Rattle.shifts.specs.Parts.{childSpan, Holds};
-use crate::boxes::Block;
-use crate::boxes::Span;
+ghost use Rattle.shifts.specs.Nodes.{liveIn, fixing};
+ghost use Rattle.shifts.specs.ties.Parts.{childSpan, Holds};
 use crate::parts::live_span;
+use boxes::Block;
+use boxes::Span;
 use costs::limits::FUNCTIONS;
 use costs::limits::ROWS;
 use costs::limits::VARS;
+use costs::networks::Outline;
 use costs::networks::byte_at;
 use costs::networks::row_at;
 use costs::networks::start_at;
@@ -38,17 +39,15 @@ pub fn function_block<'a>(
     scopes: &'a [u8; ROWS],
     starts: &'a [usize; FUNCTIONS],
     node: &'a [u8; VARS],
-    top: u64,
-    vars: usize,
-    functions: usize,
+    o: Outline,
     f: usize,
     i: usize,
     a: usize,
 ) -> Block
-    requires { ⌜ Ready top vars functions (now sizes) (now scopes) (now starts) ⌝ }
-    requires { ⌜ ((v : ℕ) → v < vars → getD (now node) v 0 ≤ getD (now sizes) v 0) ⌝ }
-    requires { ⌜ (f < functions) × (i < vars) × (a < getD (now sizes) i 0) ⌝ }
-    ensures { λ r. ⌜ Holds (netOf top vars functions (now (sizes .entry)) (now (scopes .entry))) (fixed (liveIn (now (sizes .entry)) (now (node .entry))) i a) (vars + f) r ⌝ }
+    requires { ⌜ Ready o (now sizes) (now scopes) (now starts) ⌝ }
+    requires { ⌜ ((v : ℕ) → v < o .vars → getD (now node) v 0 ≤ getD (now sizes) v 0) ⌝ }
+    requires { ⌜ (f < o .functions) × (i < o .vars) × (a < getD (now sizes) i 0) ⌝ }
+    ensures { λ r. ⌜ Holds (netOf o (now (sizes .entry)) (now (scopes .entry))) (fixing (liveIn (now (sizes .entry)) (now (node .entry))) i a) (o .vars + f) r ⌝ }
 {
     let arity = row_at(scopes, f, 0);
     let at = start_at(starts, f);

@@ -1,6 +1,6 @@
 // What a shift or a pass hands back.
 ghost use mathlib.Core.Path.{_≡_};
-use costs::answers::Answer;
+use answers::Answer;
 
 pub struct Outcome {
     pub answer: Answer,

@@ -1,11 +1,11 @@
 // A part of the network at a node, read from the network's numbers: spans of live values, and where the unary stretches begin.
-ghost use mathlib.Core.Path.{_≡_};
 ghost use Prim.Native.Nat.{ℕ, _≤_, _<_};
+ghost use mathlib.Core.Path.{_≡_};
 ghost use lib.ListN.{getD};
 ghost use Rattle.costs.specs.Limits.{varsMost, sizeMost};
 ghost use Rattle.costs.specs.Range.{sumTo};
-ghost use Rattle.shifts.specs.Parts.{liveSpan};
-use crate::boxes::Span;
+ghost use Rattle.shifts.specs.ties.Parts.{liveSpan};
+use boxes::Span;
 use costs::limits::VARS;
 use costs::networks::byte_at;
 

@@ -2,9 +2,9 @@ use Prim.Native.Nat.{_<_}
 use mathlib.Core.Path.{sym}
 use native.Mathlib.Omega.{arith}
 use borrow.Author.Needs.{needs}
-use Rattle.shifts.proofs.PartLaws.{holds-two, holds-three}
-use Rattle.costs.proofs.RowLaws.{met}
 use Rattle.costs.specs.Networks.{inRow}
+use Rattle.costs.proofs.RowLaws.{met}
+use Rattle.shifts.proofs.PartLaws.{holds-two, holds-three}
 use Rattle.shifts.proofs.blocks.function_block.Statement.{statement}
 use Rattle.shifts.proofs.blocks.function_block.Tie as tie
 
@@ -29,7 +29,7 @@ child-span-requires c κs =
       c .before .row-at2 .ensures,
       g .pre .0 .scoped .vars-few,
       g .pre .0 .scoped .small (s .i) (g .pre .1 .1 .1),
-      met (λ v. v < s .vars) (inRow (s .scopes .now) (s .f)) 0 (g .pre .0 .scoped .arity-most (s .f) (g .pre .1 .1 .0)) (omega (arith, g .pre .0 .scoped .arity-least (s .f) (g .pre .1 .1 .0))) (g .pre .0 .scoped .known (s .f) (g .pre .1 .1 .0)),
+      met (λ v. v < s .o .vars) (inRow (s .scopes .now) (s .f)) 0 (g .pre .0 .scoped .arity-most (s .f) (g .pre .1 .1 .0)) (omega (arith, g .pre .0 .scoped .arity-least (s .f) (g .pre .1 .1 .0))) (g .pre .0 .scoped .known (s .f) (g .pre .1 .1 .0)),
     )
 
 child-span-requires-2 : tie.Need-child-span-requires-2
@@ -41,14 +41,14 @@ child-span-requires-2 c κs =
       c .before .row-at3 .ensures,
       g .pre .0 .scoped .vars-few,
       g .pre .0 .scoped .small (s .i) (g .pre .1 .1 .1),
-      met (λ v. v < s .vars) (inRow (s .scopes .now) (s .f)) 1 (g .pre .0 .scoped .arity-most (s .f) (g .pre .1 .1 .0)) (omega (arith, g .pre .0 .scoped .arity-least (s .f) (g .pre .1 .1 .0))) (g .pre .0 .scoped .known (s .f) (g .pre .1 .1 .0)),
+      met (λ v. v < s .o .vars) (inRow (s .scopes .now) (s .f)) 1 (g .pre .0 .scoped .arity-most (s .f) (g .pre .1 .1 .0)) (omega (arith, g .pre .0 .scoped .arity-least (s .f) (g .pre .1 .1 .0))) (g .pre .0 .scoped .known (s .f) (g .pre .1 .1 .0)),
     )
 
 returns : tie.Need-returns
 returns c =
     let g = c .before .before .before .before .before .before .before in
     let s = g .args in
-    holds-two (s .top) (s .vars) (s .functions) (s .sizes .now) (s .scopes .now) (s .starts .now) (s .node .now) (g .pre .0) (g .pre .1 .0) (s .f) (s .i) (s .a) (g .pre .1 .1 .0) (g .pre .1 .1 .1) (g .pre .1 .1 .2)
+    holds-two (s .o) (s .sizes .now) (s .scopes .now) (s .starts .now) (s .node .now) (g .pre .0) (g .pre .1 .0) (s .f) (s .i) (s .a) (g .pre .1 .1 .0) (g .pre .1 .1 .1) (g .pre .1 .1 .2)
     _ _ _ _ (c .before .before .before .before .before .before .row-at .ensures) (c .if1 .taken) (c .before .before .before .before .before .start-at .ensures)
     (rw (← (c .before .before .before .before .row-at2 .ensures)) (c .before .before .child-span .ensures)) (rw (← (c .before .before .before .row-at3 .ensures)) (c .before .child-span2 .ensures))
 
@@ -64,7 +64,7 @@ child-span-requires-3 c κs =
       c .row-at4 .ensures,
       g .pre .0 .scoped .vars-few,
       g .pre .0 .scoped .small (s .i) (g .pre .1 .1 .1),
-      met (λ v. v < s .vars) (inRow (s .scopes .now) (s .f)) 2 (g .pre .0 .scoped .arity-most (s .f) (g .pre .1 .1 .0))
+      met (λ v. v < s .o .vars) (inRow (s .scopes .now) (s .f)) 2 (g .pre .0 .scoped .arity-most (s .f) (g .pre .1 .1 .0))
           (omega (arith, c .before .before .before .before .before .before .before .row-at .ensures, g .pre .0 .scoped .arity-least (s .f) (g .pre .1 .1 .0))) (g .pre .0 .scoped .known (s .f) (g .pre .1 .1 .0)),
     )
 
@@ -72,7 +72,7 @@ returns-2 : tie.Need-returns-2
 returns-2 c =
     let g = c .before .before .before .before .before .before .before .before .before in
     let s = g .args in
-    holds-three (s .top) (s .vars) (s .functions) (s .sizes .now) (s .scopes .now) (s .starts .now) (s .node .now) (g .pre .0) (g .pre .1 .0) (s .f) (s .i) (s .a) (g .pre .1 .1 .0) (g .pre .1 .1 .1) (g .pre .1 .1 .2)
+    holds-three (s .o) (s .sizes .now) (s .scopes .now) (s .starts .now) (s .node .now) (g .pre .0) (g .pre .1 .0) (s .f) (s .i) (s .a) (g .pre .1 .1 .0) (g .pre .1 .1 .1) (g .pre .1 .1 .2)
     _ _ _ _ _ (c .before .before .before .before .before .before .before .before .row-at .ensures) (λ e. c .before .before .if1 .left (sym e)) (c .before .before .before .before .before .before .before .start-at .ensures)
     (rw (← (c .before .before .before .before .before .before .row-at2 .ensures)) (c .before .before .before .before .child-span .ensures)) (rw (← (c .before .before .before .before .before .row-at3 .ensures)) (c .before .before .before .child-span2 .ensures)) (rw (← (c .before .row-at4 .ensures)) (c .child-span3 .ensures))
 

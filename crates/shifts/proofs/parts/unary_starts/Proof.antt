@@ -3,10 +3,10 @@ use mathlib.Core.Path.{_≡_}
 use native.Mathlib.Omega.{arith}
 use lib.ListN.{length, getD, length-set}
 use borrow.Author.Needs.{needs}
-use Rattle.shifts.proofs.PlaceLaws.{filled-more}
-use Rattle.costs.proofs.RangeLaws.{sumTo-next}
 use Rattle.costs.specs.Range.{sumTo}
 use Rattle.costs.specs.Limits.{varsMost, sizeMost}
+use Rattle.costs.proofs.RangeLaws.{sumTo-next}
+use Rattle.boxes.proofs.PlaceLaws.{filled-more}
 use Rattle.shifts.proofs.parts.unary_starts.Statement.{statement}
 use Rattle.shifts.proofs.parts.unary_starts.Tie as tie
 

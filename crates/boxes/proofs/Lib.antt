@@ -1,0 +1,3 @@
+pub mod LoopLaws
+pub mod PlaceLaws
+pub mod BoxLaws

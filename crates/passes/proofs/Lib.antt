@@ -1,0 +1,7 @@
+pub mod TableLaws
+pub mod PassIsLegal
+pub mod PassIsExact
+pub mod TurnLaws
+pub mod PassLength
+pub mod PassStaysBelow
+pub mod DoorLaws
