@@ -5,14 +5,9 @@ use mathlib.Core.Bool.{Bool, true, false, cond}
 use mathlib.Core.List.{List, [], _∷_, _++_}
 use native.Mathlib.Omega.{arith}
 use lib.Dec.{T}
-use Rattle.desk.specs.declared.faults.Fault.{Fault}
-use Rattle.desk.specs.declared.faults.Fault.the-variants.{Nowhere, At}
-use Rattle.desk.specs.Faults.{Rule, faultIn}
-
--- each rule of a list is kept
-abbrev pub AllKept : List Rule → Type 0
-AllKept [] = Unit {0}
-AllKept (r ∷ rs) = T (r .kept) × AllKept rs
+use Rattle.spelling.specs.declared.faults.Fault.{Fault}
+use Rattle.spelling.specs.declared.faults.Fault.the-variants.{Nowhere, At}
+use Rattle.desk.specs.Faults.{Rule, faultIn, AllKept}
 
 pub all-kept : (rs : List Rule) → faultIn rs Nowhere ≡ Nowhere → AllKept rs
 all-kept [] e = tt

@@ -4,8 +4,8 @@ use mathlib.Core.Path.{_≡_, sym, _∙_}
 use mathlib.Core.Bool.{Bool, true, false, cond}
 use native.Mathlib.Omega.{arith}
 use lib.Dec.{eqb}
-use Rattle.desk.specs.declared.faults.Fault.{Fault}
-use Rattle.desk.specs.declared.faults.Fault.the-variants.{Nowhere, At}
+use Rattle.spelling.specs.declared.faults.Fault.{Fault}
+use Rattle.spelling.specs.declared.faults.Fault.the-variants.{Nowhere, At}
 use Rattle.desk.specs.Faults.{faultIn}
 use Rattle.desk.specs.Checking.{claimRules, shapeRules, countOf, headerRules}
 use Rattle.desk.proofs.FaultLaws.{fault-here, fault-later, fault-append}

@@ -3,7 +3,4 @@ pub mod HeaderLaws
 pub mod CheckIsTheRules
 pub mod PlaceIsFirst
 pub mod AcceptedIsTrue
-pub mod ShowingLaws
-pub mod StandingLaws
-pub mod SteppingLaws
 pub mod RecordLaws

@@ -4,23 +4,27 @@ use mathlib.Core.Path.{_≡_, sym, _∙_}
 use mathlib.Core.Bool.{cond}
 use mathlib.Core.List.{List, [], _∷_, _++_}
 use mathlib.Core.Option.{none}
+use native.Mathlib.Omega.{arith}
 use borrow.Author.Tests.{eq-eqb, ne-eqb, le-leb, lt-leb}
 use lib.Dec.{eqb, eqb→eq}
 use lib.ListN.{length}
 use Rattle.costs.specs.declared.networks.Network.{Network}
-use Rattle.costs.specs.declared.answers.Answer.{Answer}
-use Rattle.costs.specs.declared.judging.Judged.the-variants.{Entries, Refused}
+use Rattle.costs.specs.declared.networks.Outline.{Outline}
+use Rattle.judging.specs.declared.Judged.the-variants.{Fit, Refused}
+use Rattle.judging.specs.declared.Unfit.{Unfit}
 use Rattle.costs.specs.Net.{Net, Costs, costsOf, price}
-use Rattle.costs.specs.Networks.{stands}
-use Rattle.costs.specs.Judging.{judged}
+use Rattle.costs.specs.Networks.{netOf, Ready}
+use Rattle.judging.specs.Judging.{judged, refusalOf}
+use Rattle.judging.proofs.JudgeLaws.{judged-passed}
 use Rattle.records.specs.Words.{wordBytes, wordAt}
 use Rattle.records.specs.Steps.{stepWords, stepAt}
 use Rattle.records.specs.Trees.{root}
 use Rattle.records.specs.Records.{headerWords, told, claims}
-use Rattle.desk.specs.declared.faults.Fault.{Fault}
-use Rattle.desk.specs.declared.faults.Fault.the-variants.{Nowhere, At}
+use Rattle.spelling.specs.declared.faults.Fault.{Fault}
+use Rattle.spelling.specs.declared.faults.Fault.the-variants.{Nowhere, At}
 use Rattle.desk.specs.Faults.{Rule, faultIn, answerTo}
-use Rattle.desk.specs.Checking.{claimRules, shapeRules, countOf, headerRules, firstBadValue, planRules, stepsFault, recordFault, bytesFault, checked}
+use Rattle.desk.specs.Checking.{claimRules, shapeRules, countOf, headerRules, firstBadValue, planRules, recordFault, bytesFault, checked}
+use Rattle.spelling.specs.Spelling.{stepsFault}
 use Rattle.desk.proofs.FaultLaws.{all-kept, fault-here, fault-later, fault-append}
 
 abbrev pub planPart : Net → Costs → (ℕ → ℕ) → List Rule
@@ -45,22 +49,22 @@ unfolding bytesFault
 bytes-part n held bytes l d = rw (le-leb (headerWords * wordBytes) (length bytes) l, ne-eqb (length bytes % wordBytes) 0 d)
 
 module _ (n : Net) (held : Costs) (bytes : List ℕ) (long : headerWords * wordBytes ≤ length bytes) (whole : length bytes % wordBytes ≡ 0)
-    (header : Fault) (header-is : header ≡ faultIn (headerRules (n .cap) (n .vars) (wordAt bytes) (length bytes / wordBytes)) Nowhere) where
+    (header : Fault) (header-is : header ≡ faultIn (headerRules (n .top) (n .vars) (wordAt bytes) (length bytes / wordBytes)) Nowhere) where
   abbrev later : Fault
   later = stepsFault (claims n held (wordAt bytes)) (stepAt (wordAt bytes)) (wordAt bytes 7) (headerWords + countOf (n .vars) (wordAt bytes)) (root n ∷ []) none
 
-  in-turns : bytesFault n held bytes ≡ faultIn (headerRules (n .cap) (n .vars) (wordAt bytes) (length bytes / wordBytes)) (faultIn (planPart n held (wordAt bytes)) later)
+  in-turns : bytesFault n held bytes ≡ faultIn (headerRules (n .top) (n .vars) (wordAt bytes) (length bytes / wordBytes)) (faultIn (planPart n held (wordAt bytes)) later)
   unfolding bytesFault recordFault
   in-turns =
       rw (le-leb (headerWords * wordBytes) (length bytes) long, eq-eqb (length bytes % wordBytes) 0 whole)
-      (fault-append (headerRules (n .cap) (n .vars) (wordAt bytes) (length bytes / wordBytes)) (planPart n held (wordAt bytes)) _)
+      (fault-append (headerRules (n .top) (n .vars) (wordAt bytes) (length bytes / wordBytes)) (planPart n held (wordAt bytes)) _)
 
   pub bytes-header : (w : ℕ) → header ≡ At w → At w ≡ bytesFault n held bytes
-  bytes-header w e = sym (in-turns ∙ fault-here (headerRules (n .cap) (n .vars) (wordAt bytes) (length bytes / wordBytes)) _ w (sym header-is ∙ e))
+  bytes-header w e = sym (in-turns ∙ fault-here (headerRules (n .top) (n .vars) (wordAt bytes) (length bytes / wordBytes)) _ w (sym header-is ∙ e))
 
   module _ (kept : header ≡ Nowhere) (plan : Fault) (plan-is : plan ≡ faultIn (planPart n held (wordAt bytes)) Nowhere) where
     past : bytesFault n held bytes ≡ faultIn (planPart n held (wordAt bytes)) later
-    past = in-turns ∙ fault-later (headerRules (n .cap) (n .vars) (wordAt bytes) (length bytes / wordBytes)) _ (sym header-is ∙ kept)
+    past = in-turns ∙ fault-later (headerRules (n .top) (n .vars) (wordAt bytes) (length bytes / wordBytes)) _ (sym header-is ∙ kept)
 
     pub bytes-plan : (w : ℕ) → plan ≡ At w → At w ≡ bytesFault n held bytes
     bytes-plan w e = sym (past ∙ fault-here (planPart n held (wordAt bytes)) _ w (sym plan-is ∙ e))
@@ -88,11 +92,18 @@ module _ (n : Net) (held : Costs) (word : ℕ → ℕ) where
       plan-kept e = rw (eq-eqb (word 2) 0 cheapest, ← bad-is, le-leb (n .vars) bad good, ← cost-is, eq-eqb cost (word 3) e)
 
 -- the answer, where the judge refuses and where it does not
-pub checked-refused : (net : Network) (held : List ℕ) (room least : ℕ) (bytes : List ℕ) (a : Answer) → least ≡ min (length held) room → judged net held least ≡ Refused a → a ≡ checked net held room bytes
-unfolding checked
-checked-refused net held room least bytes a l e = rw (← l, e)
+module _ (net : Network) (held : List ℕ) (room least : ℕ) (bytes : List ℕ) (is-least : least ≡ min (length held) room) where
+  pub checked-refused : (why : Unfit) → judged net held least ≡ Refused why → refusalOf why ≡ checked net held room bytes
+  unfolding checked
+  checked-refused why e = rw (← is-least, e)
 
-pub checked-record : (net : Network) (held : List ℕ) (room least : ℕ) (bytes : List ℕ) (many : ℕ) (fault : Fault) → least ≡ min (length held) room → judged net held least ≡ Entries many
-    → fault ≡ bytesFault (stands net) (costsOf (net .constant) held) bytes → answerTo fault ≡ checked net held room bytes
-unfolding checked
-checked-record net held room least bytes many fault l e f = rw (← l, e, f)
+  pub checked-record : (o : Outline) (fault : Fault) → judged net held least ≡ Fit o
+      → fault ≡ bytesFault (netOf o (net .sizes) (net .scopes)) (costsOf (o .constant) held) bytes → answerTo fault ≡ checked net held room bytes
+  unfolding checked
+  checked-record o fault e f = rw (← is-least, e, f, judged-passed net held least o (sym e) .outline)
+
+  -- what the check may count on
+  pub checked-ready : (o : Outline) → judged net held least ≡ Fit o → Ready o (net .sizes) (net .scopes) (net .starts) × (o .entries ≤ room) × (o .entries ≤ length held)
+  checked-ready o e =
+      let passed = judged-passed net held least o (sym e) in
+      rw (passed .outline) (passed .network .ready, omega (arith, passed .roomy, is-least), omega (arith, passed .roomy, is-least))

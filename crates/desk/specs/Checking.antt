@@ -1,53 +1,26 @@
 -- What the check of a record answers.
-use Prim.Native.Nat.{ℕ, zero, suc, _+_, _*_, _/_, _%_, min}
-use mathlib.Core.Bool.{Bool, true, false, cond, not, _&&_}
+use Prim.Native.Nat.{ℕ, _+_, _*_, _/_, _%_, min}
+use mathlib.Core.Bool.{Bool, cond, not, _&&_}
 use mathlib.Core.List.{List, [], _∷_, _++_}
-use mathlib.Core.Option.{Option, none, some}
+use mathlib.Core.Option.{none}
 use lib.Dec.{leb, ltb, eqb}
 use lib.ListN.{length}
+use Rattle.answers.specs.declared.Answer.{Answer}
 use Rattle.costs.specs.declared.networks.Network.{Network}
-use Rattle.costs.specs.declared.answers.Answer.{Answer}
-use Rattle.costs.specs.declared.judging.Judged.{Judged}
-use Rattle.costs.specs.declared.judging.Judged.the-variants.{Entries, Refused}
 use Rattle.costs.specs.Range.{firstTo}
 use Rattle.costs.specs.Net.{Net, Costs, costsOf, price}
 use Rattle.costs.specs.Networks.{stands}
-use Rattle.costs.specs.Judging.{judged}
-use Rattle.shifts.specs.Moves.{isLegal}
-use Rattle.records.specs.declared.steps.Step.{Step}
-use Rattle.records.specs.declared.steps.Step.the-variants.{Branch, Shift, Close}
-use Rattle.records.specs.declared.steps.Spelt.{Spelt}
-use Rattle.records.specs.declared.steps.Spelt.the-variants.{One, Nothing}
+use Rattle.judging.specs.declared.Judged.{Judged}
+use Rattle.judging.specs.declared.Judged.the-variants.{Fit, Refused}
+use Rattle.judging.specs.Judging.{judged, refusalOf}
 use Rattle.records.specs.Words.{wordBytes, wordAt}
 use Rattle.records.specs.Steps.{stepWords, stepAt}
-use Rattle.records.specs.Trees.{TreeNode, root}
-use Rattle.records.specs.Rules.{Claim, current, nodesAfter, costsAfter}
+use Rattle.records.specs.Trees.{root}
 use Rattle.records.specs.Records.{headerWords, told, claims}
-use Rattle.desk.specs.declared.faults.Fault.{Fault}
-use Rattle.desk.specs.declared.faults.Fault.the-variants.{Nowhere, At}
+use Rattle.spelling.specs.declared.faults.Fault.{Fault}
+use Rattle.spelling.specs.declared.faults.Fault.the-variants.{At}
+use Rattle.spelling.specs.Spelling.{stepsFault}
 use Rattle.desk.specs.Faults.{Rule, rule, faultIn, answerTo}
-
-abbrev pub isNone : {A : Type 0} → Option A → Bool
-isNone none = true
-isNone (some x) = false
-
--- what the rules ask of a step, as a test
-unfoldable pub may : Claim → TreeNode → Option Costs → Step → Bool
-may r d o (Branch i) = ltb i (r .net .vars) && (not (d .branched i) && isNone o)
-may r d o (Shift x) = isLegal (r .net) (d .live) (current (r .held) o) x
-may r d o Close = leb (r .cost) (current (r .held) o .base)
-
-abbrev pub onSpelt : Spelt → ℕ → (Step → Fault) → Fault
-onSpelt Nothing w go = At w
-onSpelt (One s) w go = go s
-
--- "steps by first word; an unclosed tree gives the count of words": `left` steps from word w on, which are to spell the nodes ds, the first at the costs o
-unfoldable pub stepsFault : Claim → (ℕ → Spelt) → ℕ → ℕ → List TreeNode → Option Costs → Fault
-stepsFault r at zero w [] o = Nowhere
-stepsFault r at zero w (d ∷ ds) o = At w
-stepsFault r at (suc left) w [] o = At w
-stepsFault r at (suc left) w (d ∷ ds) o =
-    onSpelt (at w) w (λ s. let later = stepsFault r at left (w + stepWords) (nodesAfter r d ds s) (costsAfter r d o s) in cond (may r d o s) later (At w))
 
 -- "edition 1; N; verdict (0 cheapest, 1 none); claimed cost c (below k, or equal to k for verdict 1)"
 abbrev pub claimRules : ℕ → ℕ → (ℕ → ℕ) → List Rule
@@ -84,10 +57,14 @@ unfoldable pub planRules : Net → Costs → (ℕ → ℕ) → List Rule
 planRules n held word =
     rule (headerWords + firstBadValue (n .vars) (n .size) word) (leb (n .vars) (firstBadValue (n .vars) (n .size) word)) ∷ rule 3 (eqb (price n held (told word)) (word 3)) ∷ []
 
+-- the rules of a record before its steps, in order
+abbrev pub rulesOf : Net → Costs → (ℕ → ℕ) → ℕ → List Rule
+rulesOf n held word many = headerRules (n .top) (n .vars) word many ++ cond (eqb (word 2) 0) (planRules n held word) []
+
 -- "header words in order, total length (7), values, price (3), and steps by first word"
 unfoldable pub recordFault : Net → Costs → (ℕ → ℕ) → ℕ → Fault
 recordFault n held word many =
-    faultIn (headerRules (n .cap) (n .vars) word many ++ cond (eqb (word 2) 0) (planRules n held word) [])
+    faultIn (rulesOf n held word many)
     (stepsFault (claims n held word) (stepAt word) (word 7) (headerWords + countOf (n .vars) word) (root n ∷ []) none)
 
 -- a whole number of words, a header's at least
@@ -99,8 +76,8 @@ unfoldable pub bytesFault : Net → Costs → List ℕ → Fault
 bytesFault n held bytes = cond (wholeWords (length bytes)) (recordFault n held (wordAt bytes) (length bytes / wordBytes)) (At 0)
 
 abbrev pub afterJudge : Judged → Answer → Answer
-afterJudge (Entries many) a = a
-afterJudge (Refused r) a = r
+afterJudge (Fit o) a = a
+afterJudge (Refused why) a = refusalOf why
 
 -- "8, 7, then the rest in table order": `room` is the length of the working table
 unfoldable pub checked : Network → List ℕ → ℕ → List ℕ → Answer

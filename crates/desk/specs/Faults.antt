@@ -1,11 +1,14 @@
 -- Rules in their order, each at its word: the fault is at the first that is broken.
 use Prim.Native.Nat.{ℕ}
-use mathlib.Core.Bool.{Bool, cond}
+use mathlib.Core.Path.{_≡_}
+use mathlib.Core.Bool.{Bool, cond, not}
+use mathlib.Core.Logic.{_⊎_}
 use mathlib.Core.List.{List, [], _∷_}
-use Rattle.costs.specs.declared.answers.Answer.{Answer}
-use Rattle.costs.specs.declared.answers.Answer.the-variants.{Done, BrokenRule}
-use Rattle.desk.specs.declared.faults.Fault.{Fault}
-use Rattle.desk.specs.declared.faults.Fault.the-variants.{Nowhere, At}
+use lib.Dec.{T}
+use Rattle.answers.specs.declared.Answer.{Answer}
+use Rattle.answers.specs.declared.Answer.the-variants.{Done, BrokenRule}
+use Rattle.spelling.specs.declared.faults.Fault.{Fault}
+use Rattle.spelling.specs.declared.faults.Fault.the-variants.{Nowhere, At}
 
 pub record Rule : Type 0 where
   pub word : ℕ
@@ -23,3 +26,13 @@ faultIn (r ∷ rs) later = cond (r .kept) (faultIn rs later) (At (r .word))
 abbrev pub answerTo : Fault → Answer
 answerTo Nowhere = Done
 answerTo (At w) = BrokenRule w
+
+-- each rule of a list is kept
+abbrev pub AllKept : List Rule → Type 0
+AllKept [] = Unit {0}
+AllKept (r ∷ rs) = T (r .kept) × AllKept rs
+
+-- the first rule of a list that is broken is one of word j
+abbrev pub FirstBroken : List Rule → ℕ → Type 0
+FirstBroken [] j = ⊥
+FirstBroken (r ∷ rs) j = (T (not (r .kept)) × (r .word ≡ j)) ⊎ (T (r .kept) × FirstBroken rs j)

@@ -6,33 +6,38 @@ ghost use mathlib.Core.Option.{none};
 ghost use Prim.Native.Nat.{_+_, _*_, _≤_};
 ghost use lib.Dec.{eqb};
 ghost use lib.ListN.{length};
-ghost use Rattle.costs.specs.Net.{costsOf, entries};
+ghost use Rattle.costs.specs.Net.{costsOf};
 ghost use Rattle.costs.specs.Networks.{netOf, Ready};
 ghost use Rattle.records.specs.Words.{wordBytes, wordAt};
 ghost use Rattle.records.specs.Steps.{stepWords, stepAt};
 ghost use Rattle.records.specs.Trees.{root};
 ghost use Rattle.records.specs.Records.{headerWords, claims};
-ghost use Rattle.desk.specs.declared.faults.Fault.the-variants.{Nowhere};
-ghost use Rattle.desk.specs.Faults.{faultIn};
-ghost use Rattle.desk.specs.Checking.{countOf, planRules, stepsFault, bytesFault, checked};
-use crate::faults::Fault;
-use crate::faults::answer_to;
+ghost use Rattle.spelling.specs.declared.faults.Fault.the-variants.{Nowhere};
+ghost use Rattle.desk.specs.Faults.{faultIn, answerTo};
+ghost use Rattle.desk.specs.Checking.{countOf, planRules, bytesFault, checked};
+ghost use Rattle.spelling.specs.Spelling.{stepsFault};
 use crate::headers::header_fault;
 use crate::headers::values_of;
-use crate::steps::steps_fault;
 use crate::values::first_bad_value;
 use crate::values::plan_told;
-use costs::answers::Answer;
-use costs::judging::Judged;
-use costs::judging::judge;
+use answers::Answer;
 use costs::limits::FUNCTIONS;
 use costs::limits::ROWS;
 use costs::limits::VARS;
-use costs::prices::price_of;
+use costs::networks::Outline;
+use judging::Judged;
+use judging::judge;
+use judging::refusal;
+use prices::prices::price_of;
+use records::layout::HEADER_BYTES;
+use records::layout::HEADER_WORDS;
+use records::layout::WORD_BYTES;
 use records::words::word_at;
 use shifts::parts::unary_starts;
-use shifts::tables::copy_in;
-use shifts::tables::shorter;
+use spelling::faults::Fault;
+use spelling::steps::steps_fault;
+use tables::copy_in;
+use tables::shorter;
 
 // The answer: refusals 8 and 7, then 13 with its place.
 pub fn answered<'a>(
@@ -50,7 +55,7 @@ pub fn answered<'a>(
     ensures { λ r. ⌜ r ≡ checked (record { top = top; constant = constant; vars = vars; sizes = now (sizes .entry); functions = functions; scopes = now (scopes .entry); starts = now (starts .entry) }) (now (held .entry)) (length (now (work .entry))) (now (bytes .entry)) ⌝ }
 {
     let room = shorter(held.len(), work.len());
-    let many = match judge(
+    let o = match judge(
         sizes,
         scopes,
         starts,
@@ -61,23 +66,20 @@ pub fn answered<'a>(
         held,
         room,
     ) {
-        Judged::Entries(many) => many,
-        Judged::Refused(answer) => return answer,
+        Judged::Fit(o) => o,
+        Judged::Refused(why) => return refusal(why),
     };
-    let fault = bytes_fault(
-        work,
-        held,
-        bytes,
-        sizes,
-        scopes,
-        starts,
-        top,
-        constant,
-        vars,
-        functions,
-        many,
-    );
+    let fault = bytes_fault(work, held, bytes, sizes, scopes, starts, o);
     answer_to(fault)
+}
+
+fn answer_to(fault: Fault) -> Answer
+    ensures { λ r. ⌜ r ≡ answerTo fault ⌝ }
+{
+    match fault {
+        Fault::Nowhere => Answer::Done,
+        Fault::At(w) => Answer::BrokenRule(w),
+    }
 }
 
 // The first word at which the record breaks a rule.
@@ -88,51 +90,25 @@ fn bytes_fault<'a>(
     sizes: &'a [u8; VARS],
     scopes: &'a [u8; ROWS],
     starts: &'a [usize; FUNCTIONS],
-    top: u64,
-    constant: u64,
-    vars: usize,
-    functions: usize,
-    many: usize,
+    o: Outline,
 ) -> Fault
-    requires { ⌜ Ready top vars functions (now sizes) (now scopes) (now starts) × (many ≡ entries (netOf top vars functions (now sizes) (now scopes))) × (many ≤ length (now work)) × (many ≤ length (now held)) ⌝ }
-    ensures { λ r. ⌜ r ≡ bytesFault (netOf top vars functions (now (sizes .entry)) (now (scopes .entry))) (costsOf constant (now (held .entry))) (now (bytes .entry)) ⌝ }
+    requires { ⌜ Ready o (now sizes) (now scopes) (now starts) × (o .entries ≤ length (now work)) × (o .entries ≤ length (now held)) ⌝ }
+    ensures { λ r. ⌜ r ≡ bytesFault (netOf o (now (sizes .entry)) (now (scopes .entry))) (costsOf (o .constant) (now (held .entry))) (now (bytes .entry)) ⌝ }
 {
     let size = bytes.len();
-    if size < 64 {
+    if size < HEADER_BYTES {
         return Fault::At(0);
     }
-    if size % 8 != 0 {
+    if size % WORD_BYTES != 0 {
         return Fault::At(0);
     }
-    if let Fault::At(w) = header_fault(bytes, size / 8, top, vars) {
+    if let Fault::At(w) = header_fault(bytes, size / WORD_BYTES, o.top, o.vars) {
         return Fault::At(w);
     }
-    if let Fault::At(w) = plan_fault(
-        bytes,
-        held,
-        sizes,
-        scopes,
-        starts,
-        top,
-        constant,
-        vars,
-        functions,
-    ) {
+    if let Fault::At(w) = plan_fault(bytes, held, sizes, scopes, starts, o) {
         return Fault::At(w);
     }
-    tree_fault(
-        work,
-        held,
-        bytes,
-        sizes,
-        scopes,
-        starts,
-        top,
-        constant,
-        vars,
-        functions,
-        many,
-    )
+    tree_fault(work, held, bytes, sizes, scopes, starts, o)
 }
 
 // The values and the price of the plan, where there is one.
@@ -142,33 +118,21 @@ fn plan_fault<'a>(
     sizes: &'a [u8; VARS],
     scopes: &'a [u8; ROWS],
     starts: &'a [usize; FUNCTIONS],
-    top: u64,
-    constant: u64,
-    vars: usize,
-    functions: usize,
+    o: Outline,
 ) -> Fault
-    requires { ⌜ Ready top vars functions (now sizes) (now scopes) (now starts) × (entries (netOf top vars functions (now sizes) (now scopes)) ≤ length (now held)) × (headerWords * wordBytes ≤ length (now bytes)) × ((headerWords + countOf vars (wordAt (now bytes))) * wordBytes ≤ length (now bytes)) ⌝ }
-    ensures { λ r. ⌜ r ≡ faultIn (cond (eqb (wordAt (now (bytes .entry)) 2) 0) (planRules (netOf top vars functions (now (sizes .entry)) (now (scopes .entry))) (costsOf constant (now (held .entry))) (wordAt (now (bytes .entry)))) []) Nowhere ⌝ }
+    requires { ⌜ Ready o (now sizes) (now scopes) (now starts) × (o .entries ≤ length (now held)) × (headerWords * wordBytes ≤ length (now bytes)) × ((headerWords + countOf (o .vars) (wordAt (now bytes))) * wordBytes ≤ length (now bytes)) ⌝ }
+    ensures { λ r. ⌜ r ≡ faultIn (cond (eqb (wordAt (now (bytes .entry)) 2) 0) (planRules (netOf o (now (sizes .entry)) (now (scopes .entry))) (costsOf (o .constant) (now (held .entry))) (wordAt (now (bytes .entry)))) []) Nowhere ⌝ }
 {
     if word_at(bytes, 2) != 0 {
         return Fault::Nowhere;
     }
+    let vars = o.vars;
     let bad = first_bad_value(bytes, sizes, vars);
     if bad < vars {
-        return Fault::At(8 + bad);
+        return Fault::At(HEADER_WORDS + bad);
     }
     let choice = plan_told(bytes, vars);
-    let price = price_of(
-        sizes,
-        scopes,
-        starts,
-        &choice,
-        top,
-        constant,
-        vars,
-        functions,
-        held,
-    );
+    let price = price_of(sizes, scopes, starts, &choice, o, held);
     if price != word_at(bytes, 3) {
         return Fault::At(3);
     }
@@ -183,19 +147,15 @@ fn tree_fault<'a>(
     sizes: &'a [u8; VARS],
     scopes: &'a [u8; ROWS],
     starts: &'a [usize; FUNCTIONS],
-    top: u64,
-    constant: u64,
-    vars: usize,
-    functions: usize,
-    many: usize,
+    o: Outline,
 ) -> Fault
-    requires { ⌜ Ready top vars functions (now sizes) (now scopes) (now starts) × (many ≡ entries (netOf top vars functions (now sizes) (now scopes))) × (many ≤ length (now work)) × (many ≤ length (now held)) ⌝ }
-    requires { ⌜ (headerWords + countOf vars (wordAt (now bytes)) + stepWords * wordAt (now bytes) 7) * wordBytes ≤ length (now bytes) ⌝ }
-    ensures { λ r. ⌜ r ≡ stepsFault (claims (netOf top vars functions (now (sizes .entry)) (now (scopes .entry))) (costsOf constant (now (held .entry))) (wordAt (now (bytes .entry)))) (stepAt (wordAt (now (bytes .entry)))) (wordAt (now (bytes .entry)) 7) (headerWords + countOf vars (wordAt (now (bytes .entry)))) (root (netOf top vars functions (now (sizes .entry)) (now (scopes .entry))) ∷ []) none ⌝ }
+    requires { ⌜ Ready o (now sizes) (now scopes) (now starts) × (o .entries ≤ length (now work)) × (o .entries ≤ length (now held)) ⌝ }
+    requires { ⌜ (headerWords + countOf (o .vars) (wordAt (now bytes)) + stepWords * wordAt (now bytes) 7) * wordBytes ≤ length (now bytes) ⌝ }
+    ensures { λ r. ⌜ r ≡ stepsFault (claims (netOf o (now (sizes .entry)) (now (scopes .entry))) (costsOf (o .constant) (now (held .entry))) (wordAt (now (bytes .entry)))) (stepAt (wordAt (now (bytes .entry)))) (wordAt (now (bytes .entry)) 7) (headerWords + countOf (o .vars) (wordAt (now (bytes .entry)))) (root (netOf o (now (sizes .entry)) (now (scopes .entry))) ∷ []) none ⌝ }
 {
-    copy_in(work, held, many);
-    let firsts = unary_starts(sizes, vars);
-    let from = 8 + values_of(bytes, vars);
+    copy_in(work, held, o.entries);
+    let firsts = unary_starts(sizes, o.vars);
+    let from = HEADER_WORDS + values_of(bytes, o.vars);
     let cost = word_at(bytes, 3);
     let steps = word_at(bytes, 7) as usize;
     steps_fault(
@@ -206,11 +166,7 @@ fn tree_fault<'a>(
         scopes,
         starts,
         &firsts,
-        top,
-        constant,
-        vars,
-        functions,
-        many,
+        o,
         cost,
         from,
         steps,

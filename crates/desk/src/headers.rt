@@ -7,11 +7,13 @@ ghost use Rattle.costs.specs.Limits.{varsMost};
 ghost use Rattle.records.specs.Words.{wordBytes, wordAt};
 ghost use Rattle.records.specs.Steps.{stepWords};
 ghost use Rattle.records.specs.Records.{headerWords};
-ghost use Rattle.desk.specs.declared.faults.Fault.the-variants.{Nowhere};
+ghost use Rattle.spelling.specs.declared.faults.Fault.the-variants.{Nowhere};
 ghost use Rattle.desk.specs.Faults.{faultIn};
 ghost use Rattle.desk.specs.Checking.{claimRules, shapeRules, countOf, headerRules};
-use crate::faults::Fault;
+use records::layout::HEADER_WORDS;
+use records::layout::STEP_WORDS;
 use records::words::word_at;
+use spelling::faults::Fault;
 
 // The first header word that breaks a rule, of a record of so many words.
 pub fn header_fault(bytes: &[u8], words: usize, top: u64, vars: usize) -> Fault
@@ -67,13 +69,13 @@ fn shape_fault(bytes: &[u8], words: usize, count: usize) -> Fault
     requires { ⌜ (count ≤ varsMost) × (headerWords * wordBytes ≤ length (now bytes)) ⌝ }
     ensures { λ r. ⌜ r ≡ faultIn (shapeRules (wordAt (now (bytes .entry))) words count) Nowhere ⌝ }
 {
-    if word_at(bytes, 4) != 8 {
+    if word_at(bytes, 4) as usize != HEADER_WORDS {
         return Fault::At(4);
     }
     if word_at(bytes, 5) as usize != count {
         return Fault::At(5);
     }
-    let from = 8 + count;
+    let from = HEADER_WORDS + count;
     if word_at(bytes, 6) as usize != from {
         return Fault::At(6);
     }
@@ -93,10 +95,10 @@ fn length_good(words: usize, from: usize, steps: usize) -> bool
         return false;
     }
     let left = words - from;
-    if left % 5 != 0 {
+    if left % STEP_WORDS != 0 {
         return false;
     }
-    if left / 5 != steps {
+    if left / STEP_WORDS != steps {
         return false;
     }
     true

@@ -8,6 +8,7 @@ ghost use Rattle.records.specs.Records.{headerWords, told};
 ghost use Rattle.desk.specs.Checking.{firstBadValue};
 use costs::limits::VARS;
 use costs::networks::byte_at;
+use records::layout::HEADER_WORDS;
 use records::words::word_at;
 
 // The first variable whose value is not below its size, or their number.
@@ -17,7 +18,7 @@ pub fn first_bad_value(bytes: &[u8], sizes: &[u8; VARS], vars: usize) -> usize
 {
     let mut v: usize = 0;
     while v < vars {
-        let value = word_at(bytes, 8 + v) as usize;
+        let value = word_at(bytes, HEADER_WORDS + v) as usize;
         if byte_at(sizes, v) <= value {
             return v;
         }
@@ -35,7 +36,7 @@ pub fn plan_told(bytes: &[u8], vars: usize) -> [u8; VARS]
     let mut choice = [0u8; VARS];
     let mut v: usize = 0;
     while v < vars {
-        choice[v] = word_at(bytes, 8 + v) as u8;
+        choice[v] = word_at(bytes, HEADER_WORDS + v) as u8;
         v += 1;
     }
     choice

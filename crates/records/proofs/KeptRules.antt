@@ -6,6 +6,7 @@ use mathlib.Core.List.{List, [], _∷_}
 use mathlib.Core.Option.{Option, none}
 use native.Mathlib.Omega.{arith}
 use Rattle.costs.specs.Net.{Net, Costs, Sound, IsPlan, price}
+use Rattle.costs.specs.Cheapest.{IsCheapest, NonePayable}
 use Rattle.costs.proofs.NetLaws.{price-capped}
 use Rattle.shifts.specs.Nodes.{Fits}
 use Rattle.shifts.proofs.ShiftsKeepPrices.{shift-keeps-price}
@@ -13,10 +14,10 @@ use Rattle.records.specs.declared.steps.Step.{Step}
 use Rattle.records.specs.declared.steps.Step.the-variants.{Branch, Shift, Close}
 use Rattle.records.specs.Trees.{TreeNode, root, children}
 use Rattle.records.specs.Rules.{Claim, current, May, nodesAfter, costsAfter, Spells, Keeps}
-use Rattle.records.specs.Records.{told, SaysCheapest, SaysNone, KeepsRules}
+use Rattle.records.specs.Records.{told, claims, SaysCheapest, SaysNone, KeepsRules}
 use Rattle.records.proofs.TreeLaws.{Each, root-fits, child-fits, each-child}
 
-module _ (r : Claim) (good : Sound (r .net)) (within : r .cost ≤ r .net .cap) where
+module _ (r : Claim) (good : Sound (r .net)) (within : r .cost ≤ r .net .top) where
   -- every plan that fits d costs what is claimed, at least
   pub record Bounded (d : TreeNode) : Type 0 where
     pub holds : (p : ℕ → ℕ) → Fits (r .net) (d .live) p → r .cost ≤ price (r .net) (r .held) p
@@ -58,31 +59,18 @@ module _ (r : Claim) (good : Sound (r .net)) (within : r .cost ≤ r .net .cap) 
   pub kept-bounds : (ss : List Step) → Keeps r ss → (p : ℕ → ℕ) → IsPlan (r .net) p → r .cost ≤ price (r .net) (r .held) p
   kept-bounds ss s p h = spelt-bounds ss (root (r .net) ∷ []) none s (λ q f. refl) .0 .holds p (root-fits (r .net) p h)
 
--- "0 cheapest": the plan has the stated price, below k, and no plan is cheaper
-pub record ProvesCheapest (n : Net) (held : Costs) (p : ℕ → ℕ) (cost : ℕ) : Type 0 where
-  pub plan : IsPlan n p
-  pub priced : price n held p ≡ cost
-  pub below : cost < n .cap
-  pub cheapest : (q : ℕ → ℕ) → IsPlan n q → cost ≤ price n held q
-
--- "1 none": every plan's price is k
-pub record ProvesNone (n : Net) (held : Costs) : Type 0 where
-  pub none-below : (q : ℕ → ℕ) → IsPlan n q → price n held q ≡ n .cap
-
 -- demand 3: kept rules make the claim true
 pub kept-true : (n : Net) → Sound n → (held : Costs) (word : ℕ → ℕ) (many : ℕ) → KeepsRules n held word many
-    → ((word 2 ≡ 0) × ProvesCheapest n held (told word) (word 3)) ⊎ ((word 2 ≡ 1) × ProvesNone n held)
-kept-true n good held word many h = ⊎-elim (λ k. inl (k .verdict, cheapest k)) (λ k. inr (k .verdict, nothing k)) (h .says)
+    → ((word 2 ≡ 0) × IsCheapest n held (told word) (word 3)) ⊎ ((word 2 ≡ 1) × NonePayable n held)
+kept-true n good held word many h = ⊎-elim (λ k. inl (k .verdict, cheapest k)) (λ k. inr (k .verdict, nothing k)) (h .claim)
   where
-    cheapest : SaysCheapest n held word many → ProvesCheapest n held (told word) (word 3)
+    cheapest : SaysCheapest n held word many → IsCheapest n held (told word) (word 3)
     cheapest k = record {
       plan = k .plan;
-      priced = k .priced;
       below = k .cost;
-      cheapest = kept-bounds (record { net = n; held = held; cost = word 3 }) good (omega (arith, k .cost)) (k .steps .steps) (k .steps .keeps);
+      priced = k .priced;
+      least = kept-bounds (claims n held word) good (omega (arith, k .cost)) (k .steps .steps) (k .steps .keeps);
     }
 
-    nothing : SaysNone n held word many → ProvesNone n held
-    nothing k = record {
-      none-below = λ q p. omega (arith, k .cost, kept-bounds (record { net = n; held = held; cost = word 3 }) good (omega (arith, k .cost)) (k .steps .steps) (k .steps .keeps) q p, price-capped n held q);
-    }
+    nothing : SaysNone n held word many → NonePayable n held
+    nothing k q p = omega (arith, k .cost, kept-bounds (claims n held word) good (omega (arith, k .cost)) (k .steps .steps) (k .steps .keeps) q p, price-capped n held q)

@@ -17,6 +17,9 @@ pub record Claim : Type 0 where
   pub held : Costs
   pub cost : ℕ
 
+abbrev pub claimOf : Net → Costs → ℕ → Claim
+claimOf n held cost = record { net = n; held = held; cost = cost }
+
 -- "each closed node starts from the held costs": the costs at a node are none of its own until a shift
 abbrev pub current : Costs → Option Costs → Costs
 current held none = held
@@ -27,7 +30,7 @@ current held (some c) = c
 abbrev pub May : Claim → TreeNode → Option Costs → Step → Type 0
 May r d o (Branch i) = (i < r .net .vars) × T (not (d .branched i)) × (o ≡ none)
 May r d o (Shift x) = Legal (r .net) (d .live) (current (r .held) o) x
-May r d o Close = r .cost ≤ current (r .held) o .base
+May r d o Close = r .cost ≤ current (r .held) o .constant
 
 -- the nodes that are still to be spelt after a step at d, where ds were to come after d
 abbrev pub nodesAfter : Claim → TreeNode → List TreeNode → Step → List TreeNode

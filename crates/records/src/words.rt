@@ -4,13 +4,14 @@ ghost use Prim.Native.Nat.{_+_, _*_, _^_, _≤_, _<_};
 ghost use lib.ListN.{length, getD};
 ghost use Rattle.costs.specs.Range.{sumTo};
 ghost use Rattle.records.specs.Words.{wordBytes, wordAt};
+use crate::layout::WORD_BYTES;
 
 // Word w of a record.
 pub fn word_at(bytes: &[u8], w: usize) -> u64
     requires { ⌜ w * wordBytes + wordBytes ≤ length (now bytes) ⌝ }
     ensures { λ r. ⌜ r ≡ wordAt (now (bytes .entry)) w ⌝ }
 {
-    let at = w * 8;
+    let at = w * WORD_BYTES;
     let low = half_at(bytes, at);
     let high = half_at(bytes, at + 4);
     low + high * 4_294_967_296

@@ -1,4 +1,4 @@
-use Rattle.shifts.proofs.TableLaws.{copied-at}
+use Rattle.tables.proofs.TableLaws.{copied-at}
 use Rattle.shifts.proofs.DoorLaws.{start-first}
 use Rattle.records.specs.Words.{wordAt}
 use Rattle.costs.specs.Networks.{netOf}
@@ -30,11 +30,11 @@ word-at-requires-2 c κs = search needs
 steps-fault-requires : tie.Need-steps-fault-requires
 steps-fault-requires c κs =
     let s = c .before .before .before .before .before .before .before .before .before .before .before .before .before .args in
-    let n = netOf (s .top) (s .vars) (s .functions) (s .sizes .now) (s .scopes .now) in
+    let n = netOf (s .o) (s .sizes .now) (s .scopes .now) in
     let word = wordAt (s .bytes .now) in
     let room : length (c .before .before .before .before .before .before .before .before .copy-in .last .0) ≡ length (s .work .now) = omega (arith, c .before .before .before .before .before .before .before .before .copy-in .kept .0) in (
-      record { ready = c .before .before .before .before .before .before .before .before .before .before .before .before .before .pre .0 .0; first = λ v l. c .before .before .before .before .before .unary-starts .ensures v l ∙ sym (start-first (s .top) (s .vars) (s .functions) (s .sizes .now) (s .scopes .now) (c .before .before .before .before .before .before .before .before .before .before .before .before .before .pre .0 .0 .scoped) v l); many-is = c .before .before .before .before .before .before .before .before .before .before .before .before .before .pre .0 .1; roomy = omega (arith, c .before .before .before .before .before .before .before .before .before .before .before .before .before .pre .0 .2); held-whole = c .before .before .before .before .before .before .before .before .before .before .before .before .before .pre .0 .3 },
-      (λ j l. rw (c .before .before .before .before .before .before .before .before .copy-in .ensures) (copied-at (s .held .now) (s .work .now) (s .many) j (c .before .before .before .before .before .before .before .before .before .before .before .before .before .pre .0 .3) l), omega (arith, c .before .before .before .before .before .before .before .before .before .before .before .before .before .pre .1, c .before .before .before .before .values-of .ensures, c .before .before .word-at2 .ensures)),
+      record { ready = c .before .before .before .before .before .before .before .before .before .before .before .before .before .pre .0 .0; first = λ v l. c .before .before .before .before .before .unary-starts .ensures v l ∙ sym (start-first (s .o) (s .sizes .now) (s .scopes .now) (c .before .before .before .before .before .before .before .before .before .before .before .before .before .pre .0 .0 .scoped) v l); roomy = omega (arith, c .before .before .before .before .before .before .before .before .before .before .before .before .before .pre .0 .1); held-whole = c .before .before .before .before .before .before .before .before .before .before .before .before .before .pre .0 .2 },
+      (λ j l. rw (c .before .before .before .before .before .before .before .before .copy-in .ensures) (copied-at (s .held .now) (s .work .now) (s .o .entries) j (c .before .before .before .before .before .before .before .before .before .before .before .before .before .pre .0 .2) l), omega (arith, c .before .before .before .before .before .before .before .before .before .before .before .before .before .pre .1, c .before .before .before .before .values-of .ensures, c .before .before .word-at2 .ensures)),
     )
 
 same-length : tie.Need-same-length

@@ -1,7 +1,7 @@
 use Rattle.costs.specs.Limits.{varsMost}
 use Rattle.records.specs.Records.{told}
 use Rattle.records.specs.Words.{wordAt}
-use Rattle.shifts.proofs.PlaceLaws.{filled-more}
+use Rattle.boxes.proofs.PlaceLaws.{filled-more}
 use native.Mathlib.Omega.{arith}
 use lib.ListN.{length, getD, length-set}
 use mathlib.Core.Path.{_≡_}

@@ -1,0 +1,3 @@
+pub mod SpellingLaws
+pub mod StandingLaws
+pub mod SteppingLaws
