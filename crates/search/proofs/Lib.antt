@@ -1,16 +1,2 @@
-pub mod OneAnswer
-pub mod RightEngines
-pub mod BudgetLaws
-pub mod TidyNodes
-pub mod WritingEngines
-pub mod PassSpelling
-pub mod FirstSearchRight
-pub mod WritingLaws
-pub mod SearchSize
-pub mod SpliceLaws
-pub mod NotingLaws
-pub mod PrefixNodes
-pub mod VisitLaws
-pub mod ResultLaws
 pub mod SearchDoorLaws
 pub mod SearchIsRight

@@ -1,154 +1,101 @@
 -- The public call, as its code goes. Assumes nothing.
-use Prim.Native.Nat.{ℕ, _+_, _-_, _≤_, _<_, min}
+use Prim.Native.Nat.{ℕ, _-_, _*_, _≤_, _<_, min}
 use mathlib.Core.Path.{_≡_, refl, sym, ap, _∙_, subst}
-use mathlib.Core.Bool.{Bool, true, false, cond}
-use mathlib.Core.List.{List, [], _++_}
-use mathlib.Core.Logic.{inl, inr}
+use mathlib.Core.Bool.{Bool, true}
+use mathlib.Core.List.{List}
 use native.Mathlib.Omega.{arith}
-use lib.Dec.{ltb}
-use lib.ListN.{length, getD, take, replicate, drop-of-length-le, length-take}
-use borrow.Author.Tests.{lt-ltb, le-ltb, ltb-true, ltb-false}
+use lib.ListN.{length, getD, replicate}
+use Rattle.answers.specs.declared.Answer.the-variants.{Done}
 use Rattle.costs.specs.declared.networks.Network.{Network}
-use Rattle.costs.specs.declared.answers.Answer.{Answer}
-use Rattle.costs.specs.declared.answers.Answer.the-variants.{OverBudget, LongRecord}
-use Rattle.costs.specs.declared.judging.Judged.the-variants.{Entries, Refused}
+use Rattle.costs.specs.declared.networks.Outline.{Outline}
 use Rattle.costs.specs.Limits.{varsMost}
 use Rattle.costs.specs.Range.{sumTo}
-use Rattle.costs.specs.Net.{Net, costsOf}
-use Rattle.costs.specs.Networks.{stands}
-use Rattle.costs.specs.Judging.{judged}
+use Rattle.costs.specs.Net.{costsOf}
+use Rattle.costs.specs.Networks.{netOf, Ready}
+use Rattle.costs.specs.Cheapest.{RightAnswer}
 use Rattle.costs.proofs.TestLaws.{is-true}
 use Rattle.costs.proofs.RowLaws.{scoped-sound}
-use Rattle.costs.proofs.JudgeLaws.{judged-passed, network-ready}
-use Rattle.shifts.specs.Parts.{Laid}
-use Rattle.shifts.proofs.TableLaws.{zero-at}
+use Rattle.judging.specs.declared.Judged.the-variants.{Fit, Refused}
+use Rattle.judging.specs.declared.Unfit.{Unfit}
+use Rattle.judging.specs.Judging.{judged, refusalOf}
+use Rattle.judging.proofs.JudgeLaws.{judged-passed}
+use Rattle.tables.proofs.TableLaws.{zero-at}
+use Rattle.shifts.specs.Nodes.{nodeGood}
 use Rattle.shifts.proofs.NodeLaws.{by-bytes}
 use Rattle.shifts.proofs.DoorLaws.{laid-by}
-use Rattle.records.specs.Words.{bytesOf}
-use Rattle.search.specs.declared.results.Searched.{Searched}
-use Rattle.search.specs.declared.visiting.Progress.{Progress}
-use Rattle.search.specs.Cheapest.{valueIn}
-use Rattle.search.specs.Engines.{State, begin}
-use Rattle.search.specs.FirstSearch.{listTo, budget}
-use Rattle.search.specs.Splicing.{headerBytes, valuesOf, recordOf, Written, Finished}
-use Rattle.search.specs.Visiting.{Fixes, Meets, visited}
-use Rattle.search.specs.Doors.{Left, beginning, refusedSearch, finishedSearch, recordBytes, refusedLeft, finishedLeft, endedLeft, searchOf, searchLeaves}
-use Rattle.search.proofs.FirstSearchRight.{first-answer}
-use Rattle.search.proofs.SpliceLaws.{values-size}
+use Rattle.recorder.specs.ties.Noted.{noteSize}
+use Rattle.bounds.specs.ties.Noting.{notesMost}
+use Rattle.engines.specs.declared.results.Searched.{Searched}
+use Rattle.engines.specs.declared.progress.Progress.{Progress}
+use Rattle.engines.specs.Engines.{State, begin, budget}
+use Rattle.engines.specs.Results.{SearchLeft, refusedSearch, endedLeft}
+use Rattle.engines.specs.ties.Progressing.{Meets, beginning, Told}
+use Rattle.engines.proofs.ProgressLaws.{begin-meets}
+use Rattle.engines.proofs.TellingLaws.{answer-values, leaves-refused, leaves-told}
+use Rattle.search.specs.Doors.{searchOf, searchLeaves}
+use Rattle.visiting.specs.ties.Visiting.{Fixes, Enters, visited, Visits, searchedIn}
+use Rattle.visiting.proofs.FirstSearchRight.{first-answer}
 
--- at the beginning no variable is fixed
-pub fixes-none : (sizes : List ℕ) → Fixes (replicate varsMost 0) sizes 0
-fixes-none sizes = record { some = λ v l. absurd (omega arith); inside = λ v l. absurd (omega arith); free = λ v l. zero-at varsMost v }
+-- at the root no variable is fixed
+abbrev pub rootBytes : List ℕ
+rootBytes = replicate varsMost 0
 
--- the judge has passed the network
-pub laid-root : (net : Network) (t firsts : List ℕ) (room size many : ℕ) → Entries many ≡ judged net t room → room ≤ size → ((v : ℕ) → v < net .vars → getD firsts v 0 ≡ sumTo v (λ w. getD (net .sizes) w 0))
-    → Laid (net .top) (net .vars) (net .functions) (net .sizes) (net .scopes) (net .starts) firsts (replicate varsMost 0) size
-laid-root net t firsts room size many e l first =
-    laid-by net t (record { fixed = replicate varsMost 0 }) room size many firsts e l (is-true _ (by-bytes (net .vars) (net .sizes) (replicate varsMost 0) .finds (λ v m. let z = zero-at varsMost v in omega (arith, z)))) first
+fixes-none : (sizes : List ℕ) → Fixes rootBytes sizes 0
+fixes-none sizes = record { some = λ v l. absurd (omega arith); sized = λ v l. absurd (omega arith); free = λ v l. zero-at varsMost v }
 
-begin-written : (out : List ℕ) → Written out (record { at = headerBytes; full = ltb (length out) headerBytes }) []
-begin-written out = record {
-  there = λ e. let l = ltb-false (length out) headerBytes e in record { place = refl; fits = l; bytes = drop-of-length-le (take headerBytes out) {i = headerBytes} (let z = length-take headerBytes out in omega (arith, z)) };
-  over = λ e. ltb-true (length out) headerBytes e;
-}
+root-good : (vars : ℕ) (sizes : List ℕ) → nodeGood vars sizes rootBytes ≡ true
+root-good vars sizes = is-true _ (by-bytes vars sizes rootBytes .finds (λ v m. let z = zero-at varsMost v in omega (arith, z)))
 
-pub begin-meets : (asked : Bool) (top vars : ℕ) (out : List ℕ) → Meets asked vars (beginning top (length out)) (replicate varsMost 0) out (begin top)
-begin-meets asked top vars out = record { best = refl; nodes = refl; ended = refl; plan = refl; written = λ e. begin-written out }
+-- a judged network's parts, and its search
+module _ (o : Outline) (sizes rows starts held : List ℕ) (ready : Ready o sizes rows starts) where
+  pub enters-root : (firsts : List ℕ) (room notes : ℕ) → o .entries ≤ length held → o .entries ≤ room → notesMost * noteSize ≤ notes → ((v : ℕ) → v < o .vars → getD firsts v 0 ≡ sumTo v (λ w. getD sizes w 0))
+      → Enters o sizes rows starts firsts held rootBytes 0 room notes varsMost
+  enters-root firsts room notes whole roomy noted first = record {
+    laid = laid-by o sizes rows starts rootBytes firsts room ready (omega (arith, ready .entries-is)) (root-good (o .vars) sizes) first;
+    held-whole = whole;
+    noted = noted;
+    plan-long = refl;
+    node-long = refl;
+    within = omega arith;
+    fixes = fixes-none sizes;
+  }
 
-pub visited-whole : (net : Network) (held : List ℕ) (limit : ℕ) → visited (stands net) (costsOf (net .constant) held) limit (replicate varsMost 0) 0 (begin (net .top)) ≡ searchOf net held limit
-unfolding searchOf
-visited-whole net held limit = let e : net .vars - 0 ≡ net .vars = omega arith in rw e
+  pub searched-answers : 1 ≤ o .top → (limit : ℕ) → searchedIn o sizes rows held limit .ended ≡ Done
+      → RightAnswer (netOf o sizes rows) (costsOf (o .constant) held) (searchedIn o sizes rows held limit .plan) (searchedIn o sizes rows held limit .best)
+  unfolding searchedIn
+  searched-answers some limit ended = first-answer (netOf o sizes rows) (scoped-sound o sizes rows (ready .scoped)) (costsOf (o .constant) held) (ready .constant-most) some (budget limit) ended
 
--- from the beginning to the end
-pub done-meets : (net : Network) (held out o plan : List ℕ) (asked : Bool) (limit : ℕ) (b x : Progress) → b ≡ beginning (net .top) (length out)
-    → ((s : State) → Meets asked (net .vars) b (replicate varsMost 0) out s → Meets asked (net .vars) x plan o (visited (stands net) (costsOf (net .constant) held) limit (replicate varsMost 0) 0 s))
-    → Meets asked (net .vars) x plan o (searchOf net held limit)
-done-meets net held out o plan asked limit b x e f =
-    subst (λ (s : State). Meets asked (net .vars) x plan o s) (visited-whole net held limit) (f (begin (net .top)) (subst (λ (y : Progress). Meets asked (net .vars) y (replicate varsMost 0) out (begin (net .top))) (sym e) (begin-meets asked (net .top) (net .vars) out)))
+  module _ (asked : Bool) (limit : ℕ) (out : List ℕ) (b x : Progress) (plan out′ : List ℕ) (begins : b ≡ beginning (o .top) (length out))
+      (visits : Visits o sizes rows held asked limit rootBytes 0 b rootBytes out x plan out′) where
+    visited-whole : visited (netOf o sizes rows) (costsOf (o .constant) held) limit rootBytes 0 (begin (o .top)) ≡ searchedIn o sizes rows held limit
+    unfolding searchedIn
+    visited-whole = let e : o .vars - 0 ≡ o .vars = omega arith in rw e
 
-pub spot-there : (asked : Bool) (vars : ℕ) (x : Progress) (plan o : List ℕ) (s : State) → Meets asked vars x plan o s → asked ≡ true → x .spot .full ≡ false → (headerBytes ≤ x .spot .at) × (x .spot .at ≤ length o)
-spot-there asked vars x plan o s m wanted f = let k = m .written wanted .there f in (omega (arith, k .place), k .fits)
+    pub done-meets : Meets asked (o .vars) x plan out′ (searchedIn o sizes rows held limit)
+    done-meets =
+        subst (λ (s : State). Meets asked (o .vars) x plan out′ s) visited-whole
+        (visits (begin (o .top)) (subst (λ (y : Progress). Meets asked (o .vars) y rootBytes out (begin (o .top))) (sym begins) (begin-meets asked (o .top) (o .vars) out)))
 
-pub zeros-all : (o u : List ℕ) → u ≡ take 0 o ++ replicate (length o - 0) 0 → u ≡ replicate (length o) 0
-zeros-all o u e = let z : length o - 0 ≡ length o = omega arith in e ∙ ap (λ (m : ℕ). replicate m 0) z
+    pub search-told : 1 ≤ o .top → (r : Searched) (u : List ℕ) → length out′ ≡ length out → Told o asked x plan out′ r u
+        → _≡_ {A = SearchLeft} (record { result = r; out = u }) (endedLeft (netOf o sizes rows) asked (length out) (searchedIn o sizes rows held limit))
+    search-told some r u same told =
+        told sizes rows (searchedIn o sizes rows held limit) done-meets
+        (λ ended. answer-values (netOf o sizes rows) (costsOf (o .constant) held) asked x plan out′ (searchedIn o sizes rows held limit) done-meets (searched-answers some limit ended))
+        ∙ ap (λ (m : ℕ). endedLeft (netOf o sizes rows) asked m (searchedIn o sizes rows held limit)) same
 
--- a plan of all variables was found
-whole-plan : (vars : ℕ) (found : Bool) (plan q : List ℕ) → q ≡ valuesOf vars found plan → length q ≡ vars → q ≡ listTo vars (valueIn plan)
-whole-plan vars found plan q e l = let same : cond found vars 0 ≡ vars = sym (values-size vars found plan) ∙ sym (ap length e) ∙ l in e ∙ ap (λ (m : ℕ). listTo m (valueIn plan)) same
+-- what the judge has told, where `room` is the shorter of the two tables
+module _ (net : Network) (held : List ℕ) (work out : ℕ) (asked : Bool) (limit room : ℕ) (shorter : room ≡ min (length held) work) where
+  pub search-refused : (why : Unfit) → judged net held room ≡ Refused why → (r : Searched) (u : List ℕ) → r ≡ refusedSearch (refusalOf why) → u ≡ replicate out 0
+      → _≡_ {A = SearchLeft} (record { result = r; out = u }) (searchLeaves net held work out asked limit)
+  search-refused why e r u is zeros = leaves-refused net held work out asked (searchOf net held limit) why r u (rw (← shorter) (sym e)) is zeros
 
--- a record that was asked for
-module _ (n : Net) (room : ℕ) (s : State) (fits : Bool) (u : List ℕ) (h : Finished (recordBytes n s) room fits u) where
-  abbrev whole : Left
-  whole = record { result = finishedSearch (s .plan) (s .best) (s .count); out = recordBytes n s ++ replicate (room - length (recordBytes n s)) 0 }
+  module _ (o : Outline) (e : judged net held room ≡ Fit o) where
+    fits : Fit o ≡ judged net held (min (length held) work)
+    fits = rw (← shorter) (sym e)
 
-  abbrev cut : Left
-  cut = refusedLeft room LongRecord
+    pub fit-ready : Ready o (net .sizes) (net .scopes) (net .starts) × (1 ≤ o .top) × (o .entries ≤ length held) × (o .entries ≤ work)
+    fit-ready = let p = judged-passed net held (min (length held) work) o fits in rw (p .outline) (p .network .ready, p .network .top-some, omega (arith, p .roomy), omega (arith, p .roomy))
 
-  chosen : cond fits whole cut ≡ finishedLeft n true room s
-  chosen = ap (λ (b : Bool). cond b whole cut) (h .says)
-
-  finished-fits : fits ≡ true → _≡_ {A = Left} (record { result = finishedSearch (s .plan) (s .best) (s .count); out = u }) (finishedLeft n true room s)
-  finished-fits f = ap (λ (o : List ℕ). record { result = finishedSearch (s .plan) (s .best) (s .count); out = o }) (rw f at (h .holds)) ∙ (rw f at chosen)
-
-  finished-long : fits ≡ false → _≡_ {A = Left} (record { result = refusedSearch LongRecord; out = u }) (finishedLeft n true room s)
-  finished-long f = ap (λ (o : List ℕ). record { result = refusedSearch LongRecord; out = o }) (rw f at (h .holds)) ∙ (rw f at chosen)
-
--- what is told of a search that came so far
-module _ (n : Net) (asked : Bool) (s : State) (x : Progress) (plan o : List ℕ) (m : Meets asked (n .vars) x plan o s) where
-  pub tells-over : (r : Searched) (u : List ℕ) → r ≡ refusedSearch OverBudget → x .over ≡ true → u ≡ replicate (length o) 0 → _≡_ {A = Left} (record { result = r; out = u }) (endedLeft n asked (length o) (s .ended) s)
-  tells-over r u e over z = rw (m .ended, over, e, z)
-
-  module _ (goes : x .over ≡ false) (found : Bool) (is : found ≡ ltb (x .best) (n .cap)) (plan-is : s .ended ≡ 0 → s .plan ≡ valuesOf (n .vars) (ltb (x .best) (n .cap)) plan) where
-    goes-on : s .ended ≡ 0
-    goes-on = rw goes at (m .ended)
-
-    its-plan : s .plan ≡ valuesOf (n .vars) found plan
-    its-plan = rw is (plan-is goes-on)
-
-    leaves-finished : (b : Bool) → asked ≡ b → finishedLeft n b (length o) s ≡ endedLeft n asked (length o) (s .ended) s
-    leaves-finished b a = rw (goes-on, a)
-
-    -- the result as the code hands it back
-    told-result : (r : Searched) → r ≡ finishedSearch (valuesOf (n .vars) found plan) (x .best) (x .nodes) → r ≡ finishedSearch (s .plan) (s .best) (s .count)
-    told-result r e = e ∙ rw (its-plan, ← m .best, ← m .nodes)
-
-    pub tells-unrecorded : (r : Searched) (u : List ℕ) → r ≡ finishedSearch (valuesOf (n .vars) found plan) (x .best) (x .nodes) → asked ≡ false → u ≡ replicate (length o) 0
-        → _≡_ {A = Left} (record { result = r; out = u }) (endedLeft n asked (length o) (s .ended) s)
-    tells-unrecorded r u e unasked z = rw z (ap (λ (q : Searched). record { result = q; out = replicate (length o) 0 }) (told-result r e) ∙ leaves-finished false unasked)
-
-    module _ (wanted : asked ≡ true) (fits : Bool) (u : List ℕ) (h : Finished (bytesOf (recordOf (n .vars) found (x .best) (valuesOf (n .vars) found plan) (s .steps))) (length o) fits u) where
-      record-is : Finished (recordBytes n s) (length o) fits u
-      record-is = let e : recordBytes n s ≡ bytesOf (recordOf (n .vars) found (x .best) (valuesOf (n .vars) found plan) (s .steps)) = rw (its-plan, ← m .best, is) in subst (λ (b : List ℕ). Finished b (length o) fits u) (sym e) h
-
-      pub tells-recorded : (r : Searched) → r ≡ finishedSearch (valuesOf (n .vars) found plan) (x .best) (x .nodes) → fits ≡ true → _≡_ {A = Left} (record { result = r; out = u }) (endedLeft n asked (length o) (s .ended) s)
-      tells-recorded r e f = ap (λ (q : Searched). record { result = q; out = u }) (told-result r e) ∙ finished-fits n (length o) s fits u record-is f ∙ leaves-finished true wanted
-
-      pub tells-long : (r : Searched) → r ≡ refusedSearch LongRecord → fits ≡ false → _≡_ {A = Left} (record { result = r; out = u }) (endedLeft n asked (length o) (s .ended) s)
-      tells-long r e f = ap (λ (q : Searched). record { result = q; out = u }) e ∙ finished-long n (length o) s fits u record-is f ∙ leaves-finished true wanted
-
-module _ (net : Network) (held work out : List ℕ) (asked : Bool) (limit : ℕ) where
-  abbrev room : ℕ
-  room = min (length held) (length work)
-
-  abbrev last : State
-  last = searchOf net held limit
-
-  pub search-refused : (a : Answer) (r : Searched) (u : List ℕ) → Refused a ≡ judged net held room → r ≡ refusedSearch a → u ≡ replicate (length out) 0 → _≡_ {A = Left} (record { result = r; out = u }) (searchLeaves net held work out asked limit)
-  unfolding searchLeaves
-  search-refused a r u e q z = rw (← e, q, z)
-
-  -- the search was made
-  module _ (many : ℕ) (e : Entries many ≡ judged net held room) where
-    pub plan-is : (x : Progress) (plan o : List ℕ) → Meets asked (net .vars) x plan o last → last .ended ≡ 0 → last .plan ≡ valuesOf (net .vars) (ltb (x .best) (net .top)) plan
-    unfolding searchOf
-    plan-is x plan o m stopped =
-        let passed = judged-passed net held room many e .network in
-        let sound = scoped-sound (net .top) (net .vars) (net .functions) (net .sizes) (net .scopes) (network-ready net held passed .scoped) in
-        elim (first-answer (stands net) sound (costsOf (net .constant) held) (passed .constant) (passed .top-some) (budget limit) stopped) [
-          | inl h ↦ h .plan ∙ rw (m .best, h .best, le-ltb (net .top) (net .top) (omega arith))
-          | inr h ↦ whole-plan (net .vars) (x .found) plan (searchOf net held limit .plan) (m .plan) (h .whole) ∙ rw (m .best, lt-ltb _ (net .top) (h .below))
-        ]
-
-    pub search-told : (l : Left) (o : List ℕ) → length o ≡ length out → l ≡ endedLeft (stands net) asked (length o) (last .ended) last → l ≡ searchLeaves net held work out asked limit
-    unfolding searchLeaves
-    search-told l o same h = rw (← e) (h ∙ ap (λ (k : ℕ). endedLeft (stands net) asked k (last .ended) last) same)
+    pub search-leaves : (l : SearchLeft) → l ≡ endedLeft (netOf o (net .sizes) (net .scopes)) asked out (searchedIn o (net .sizes) (net .scopes) held limit) → l ≡ searchLeaves net held work out asked limit
+    unfolding searchOf searchedIn
+    search-leaves l h = let p = judged-passed net held (min (length held) work) o fits in leaves-told net held work out asked (searchOf net held limit) o l out fits refl (rw (p .outline) at h)

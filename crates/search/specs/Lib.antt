@@ -1,9 +1,1 @@
-pub mod Engines
-pub mod Cheapest
-pub mod FirstSearch
-pub mod Noted
-pub mod Splicing
-pub mod Noting
-pub mod Visiting
 pub mod Doors
-pub mod Examples

@@ -1,0 +1,2 @@
+pub mod NotingLaws
+pub mod BoundLaws

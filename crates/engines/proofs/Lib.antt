@@ -1,0 +1,12 @@
+pub mod OneAnswer
+pub mod RightEngines
+pub mod GateLaws
+pub mod BudgetLaws
+pub mod TidyNodes
+pub mod WritingEngines
+pub mod PassSpelling
+pub mod WritingLaws
+pub mod SearchSize
+pub mod ResultLaws
+pub mod ProgressLaws
+pub mod TellingLaws

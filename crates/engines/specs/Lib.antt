@@ -1,0 +1,5 @@
+pub mod Engines
+pub mod Nodes
+pub mod Rightness
+pub mod Results
+pub mod ties

@@ -1,0 +1,3 @@
+pub mod FirstSearchRight
+pub mod PrefixNodes
+pub mod VisitLaws

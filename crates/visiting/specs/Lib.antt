@@ -1,0 +1,3 @@
+pub mod FirstSearch
+pub mod Examples
+pub mod ties
