@@ -7,10 +7,11 @@ use native.Mathlib.Omega.{arith}
 use lib.ListN.{length}
 use Rattle.tokens.specs.Tokens.{Text}
 use Rattle.tokens.specs.Steps.{andThen}
-use Rattle.tokens.specs.Words.{follows, followsIs}
+use Rattle.tokens.specs.Words.{follows}
+use Rattle.tokens.specs.ties.Outcomes.{followsIs}
 use Rattle.tokens.specs.declared.words.Follows.{Follows}
-use Rattle.function_costs.specs.Sizes.{product}
-use Rattle.function_costs.specs.Listed.{listed}
+use Rattle.stretches.specs.Sizes.{product}
+use Rattle.listed_costs.specs.Listed.{listed}
 use Rattle.function_costs.specs.FunctionCosts.{mark, marked, costs}
 
 pub costs-none : (top : ℕ) (ds : List ℕ) (text : Text) (at : ℕ) → length ds < 1 → costs top ds text at ≡ listed top ds 0 text at

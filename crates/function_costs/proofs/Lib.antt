@@ -1,5 +1,1 @@
-pub mod MapLaws
-pub mod SizeLaws
-mod ListedLaws
-mod SoftLaws
 mod FunctionCostLaws

@@ -4,9 +4,9 @@ use mathlib.Core.Bool.{cond}
 use mathlib.Core.List.{List, [], _∷_}
 use Rattle.tokens.specs.Steps.{Reads, _>>=_, _>>_, pure}
 use Rattle.tokens.specs.Words.{word, follows}
-use Rattle.function_costs.specs.Sizes.{product}
-use Rattle.function_costs.specs.Listed.{listed}
-use Rattle.function_costs.specs.Soft.{softSum, softCosts}
+use Rattle.stretches.specs.Sizes.{product}
+use Rattle.listed_costs.specs.Listed.{listed}
+use Rattle.soft_sums.specs.Soft.{softSum, softCosts}
 
 -- -1
 abbrev pub mark : List ℕ

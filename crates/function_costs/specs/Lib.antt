@@ -1,5 +1,1 @@
-pub mod FunctionLimits
-pub mod Sizes
-pub mod Listed
-pub mod Soft
 pub mod FunctionCosts

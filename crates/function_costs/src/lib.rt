@@ -1,18 +1,16 @@
-// The costs of one function of a text, listed or a soft sum, into the function's own entries. This file is the room's door.
-pub mod limits;
-pub mod listed;
-pub mod soft;
-
+// The costs of one function of a text, listed or a soft sum, into the function's own entries.
 ghost use mathlib.Core.Path.{_≡_};
 ghost use lib.ListN.{length};
 ghost use Rattle.tokens.specs.Tokens.{textOf};
-ghost use Rattle.tokens.specs.Words.{posIs, placeAmong, word, wordIs};
-ghost use Rattle.function_costs.specs.Sizes.{product, Small};
+ghost use Rattle.tokens.specs.ties.Outcomes.{posIs, wordIs};
+ghost use Rattle.tokens.specs.Words.{placeAmong, word};
+ghost use Rattle.stretches.specs.Sizes.{product};
+ghost use Rattle.stretches.specs.ties.Small.{Small};
 ghost use Rattle.function_costs.specs.FunctionCosts.{keywords, marked, costs};
-use crate::listed::read_listed;
-use crate::soft::SoftRead;
-use crate::soft::fill_soft;
-use crate::soft::read_soft;
+use listed_costs::read_listed;
+use soft_sums::SoftRead;
+use soft_sums::fill_soft;
+use soft_sums::read_soft;
 use tokens::tokens::bytes_of;
 use tokens::tokens::next_token;
 use tokens::words::Pos;

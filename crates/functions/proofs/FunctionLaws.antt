@@ -1,30 +1,32 @@
--- Laws of where a function's costs are put, and of one function and all of them. Assumes nothing.
+-- Laws of one function and all of them, one turn at a time. Assumes nothing.
 use Prim.Native.Nat.{ℕ, zero, suc, _+_, _≤_, _<_, max}
 use mathlib.Core.Path.{_≡_, refl, sym, ap, _∙_}
-use mathlib.Core.List.{List, [], _∷_, _++_}
+use mathlib.Core.List.{List, [], _∷_}
 use native.Mathlib.Omega.{arith}
-use lib.ListN.{length, getD, take, set}
-use Rattle.costs.specs.Limits.{sizeMost, entriesMost}
-use Rattle.costs.specs.declared.answers.Answer.{Answer}
-use Rattle.costs.proofs.RangeLaws.{sumTo-mono}
+use lib.ListN.{length, getD, take}
+use lib.Seq.{length-take-le}
+use Rattle.costs.specs.Limits.{sizeMost, arityMost, entriesMost}
+use Rattle.costs.specs.declared.networks.Outline.{Outline}
+use Rattle.answers.specs.declared.Answer.{Answer}
 use Rattle.tokens.specs.Tokens.{Text}
 use Rattle.tokens.specs.Steps.{Got, got, refused, andThen}
-use Rattle.tokens.specs.Words.{posIs}
+use Rattle.tokens.specs.Numbers.{numberIn}
+use Rattle.tokens.specs.ties.Outcomes.{numIs, posIs}
 use Rattle.tokens.specs.declared.words.Pos.{Pos}
 use Rattle.tokens.specs.declared.words.Pos.the-variants.{At, Refused}
-use Rattle.tokens.proofs.StepLaws.{same-value}
-use Rattle.tokens.specs.Numbers.{number, numIs}
 use Rattle.tokens.specs.declared.numbers.Seen.{Seen}
 use Rattle.tokens.specs.declared.numbers.Num.{Num}
 use Rattle.tokens.specs.declared.numbers.Num.the-variants as N
-use Rattle.function_costs.specs.FunctionLimits.{arityMost}
-use Rattle.functions.specs.declared.functions.State.{State}
-use Rattle.functions.specs.declared.functions.Step.{Step}
-use Rattle.functions.specs.declared.functions.Step.the-variants as S
-use Rattle.functions.specs.Scopes.{sizesOf, scope}
-use Rattle.function_costs.specs.Sizes.{product, Small}
-use Rattle.functions.specs.Functions.{Draft, sums, summed, unaryStart, rowSet, put, placed, function, functions, draftOf, stepIs, Held, Counted, CountedIn}
+use Rattle.stretches.specs.Sizes.{product}
+use Rattle.stretches.specs.ties.Small.{Small}
+use Rattle.scopes.specs.Scopes.{scopeSizes, scope}
 use Rattle.function_costs.specs.FunctionCosts.{costs}
+use Rattle.placing.specs.Drafts.{Draft, put}
+use Rattle.placing.specs.ties.Sheets.{draftOf, Begun}
+use Rattle.functions.specs.declared.Step.{Step}
+use Rattle.functions.specs.declared.Step.the-variants as S
+use Rattle.functions.specs.Functions.{placed, function, functions}
+use Rattle.functions.specs.ties.Steps.{stepIs, Counted, CountedIn}
 
 -- costs that were read are put where they belong
 module _ (d : Draft) (xs : List ℕ) (p : Pos) (cells : List ℕ) (g : Got (List ℕ)) (e : posIs p cells ≡ g) where
@@ -34,47 +36,10 @@ module _ (d : Draft) (xs : List ℕ) (p : Pos) (cells : List ℕ) (g : Got (List
   pub placed-at : (next : ℕ) → p ≡ At next → got (put d xs cells) next ≡ placed d xs g
   placed-at next f = rw (← e, f)
 
--- and ⊕-added to a stretch
-module _ (top : ℕ) (xs : List ℕ) (p : Pos) (cells : List ℕ) (g : Got (List ℕ)) (e : posIs p cells ≡ g) where
-  pub summed-stop : (answer : Answer) → p ≡ Refused answer → refused answer ≡ summed top xs g
-  summed-stop answer f = rw (← e, f)
-
-  pub summed-at : (next : ℕ) (out : List ℕ) → p ≡ At next → out ≡ sums top xs cells → got out next ≡ summed top xs g
-  summed-at next out f o = rw (← e, f, o)
-
--- a stretch that was added to is part of the table
-pub unary-stop : (d : Draft) (x : ℕ) (xs : List ℕ) (p : Pos) (cells : List ℕ) (g : Got (List ℕ)) → posIs p cells ≡ summed (d .net .top) xs g
-    → (answer : Answer) → p ≡ Refused answer → refused answer ≡ placed d (x ∷ []) g
-unary-stop d x xs p cells (got cs next) e answer f = absurd (let z : _≡_ {A = ℕ} 0 1 = cc in omega arith)
-unary-stop d x xs p cells (refused a) e answer f = cc
-
-pub unary-at : (d : Draft) (x : ℕ) (xs : List ℕ) (p : Pos) (cells : List ℕ) (g : Got (List ℕ)) → posIs p cells ≡ summed (d .net .top) xs g
-    → (next : ℕ) (out : List ℕ) → p ≡ At next → ((cs : List ℕ) → cells ≡ sums (d .net .top) xs cs → out ≡ put d (x ∷ []) cs .table)
-    → got (record { net = d .net; table = out }) next ≡ placed d (x ∷ []) g
-unary-at d x xs p cells (got cs after) e next out f o =
-    let q : got cells next ≡ got (sums (d .net .top) xs cs) after = sym (ap (λ (r : Pos). posIs r cells) f) ∙ e in
-    let n : next ≡ after = cc in
-    rw (o cs (same-value _ _ _ _ q), n)
-unary-at d x xs p cells (refused a) e next out f o = absurd (let z : _≡_ {A = ℕ} 0 1 = cc in omega arith)
-
--- two or three variables have a row and a stretch of their own
-pub numbered-at : (d : Draft) (xs : List ℕ) (p : Pos) (cells : List ℕ) (g : Got (List ℕ)) → posIs p cells ≡ g → (next : ℕ) (scopes starts table : List ℕ) → p ≡ At next
-    → 2 ≤ length xs → scopes ≡ rowSet (d .net .scopes) (d .net .functions) xs → starts ≡ set (d .net .starts) (d .net .functions) (length (d .table)) → table ≡ d .table ++ cells
-    → got (record {
-      net = record {
-        top = d .net .top;
-        constant = d .net .constant;
-        vars = d .net .vars;
-        sizes = d .net .sizes;
-        functions = d .net .functions + 1;
-        scopes = scopes;
-        starts = starts;
-      };
-      table = table;
-    }) next ≡ placed d xs g
-numbered-at d [] p cells g e next scopes starts table f l r s t = absurd (omega arith)
-numbered-at d (x ∷ []) p cells g e next scopes starts table f l r s t = absurd (omega arith)
-numbered-at d (x ∷ y ∷ zs) p cells g e next scopes starts table f l r s t = rw (r, s, t) (placed-at d (x ∷ y ∷ zs) p cells g e next f)
+-- which are those of its scope
+pub placed-is : (d : Draft) (xs ys ds : List ℕ) (text : Text) (at : ℕ) (g : Got Draft) → g ≡ placed d ys (costs (d .net .top) ds text at) → ys ≡ xs → ds ≡ scopeSizes (d .net .sizes) xs
+    → g ≡ placed d xs (costs (d .net .top) (scopeSizes (d .net .sizes) xs) text at)
+placed-is d xs ys ds text at g h e f = h ∙ rw (e, f)
 
 -- sizes of no variable and of one
 pub small-none : Small []
@@ -99,12 +64,8 @@ pub no-product : product [] ≡ 1
 unfolding product
 no-product = refl
 
--- a unary stretch lies below the entries so far
-pub unary-below : (vars : ℕ) (sizes : List ℕ) (entries x : ℕ) → Held vars sizes entries → x < vars → unaryStart sizes x + getD sizes x 0 ≤ entries
-unary-below vars sizes entries x held l = omega (arith, sumTo-mono (λ v. getD sizes v 0) (suc x) vars l, held .unary)
-
 -- one function, by how far the reading came
-module _ (d : Draft) (text : Text) (at : ℕ) (r : Num) (h : numIs r ≡ number 0 arityMost text at) where
+module _ (d : Draft) (text : Text) (at : ℕ) (r : Num) (h : numIs r ≡ numberIn 0 arityMost text at) where
   pub function-arity : (answer : Answer) → r ≡ N.No answer → function d text at ≡ refused answer
   unfolding function andThen
   function-arity answer f = rw (← h, f)
@@ -115,14 +76,9 @@ module _ (d : Draft) (text : Text) (at : ℕ) (r : Num) (h : numIs r ≡ number 
     unfolding function andThen
     function-scope answer k = rw (← h, f, e, ← g, k)
 
-    pub function-placed : (next : ℕ) → p ≡ At next → function d text at ≡ placed d xs (costs (d .net .top) (sizesOf (d .net .sizes) xs) text next)
+    pub function-placed : (next : ℕ) → p ≡ At next → function d text at ≡ placed d xs (costs (d .net .top) (scopeSizes (d .net .sizes) xs) text next)
     unfolding function andThen
     function-placed next k = rw (← h, f, e, ← g, k)
-
--- what puts the costs of a function's scope has read the function
-pub function-is : (d : Draft) (xs ys ds : List ℕ) (text : Text) (at next : ℕ) (g : Got Draft) → g ≡ placed d ys (costs (d .net .top) ds text next) → ys ≡ xs → ds ≡ sizesOf (d .net .sizes) xs
-    → function d text at ≡ placed d xs (costs (d .net .top) (sizesOf (d .net .sizes) xs) text next) → g ≡ function d text at
-function-is d xs ys ds text at next g h e f w = rw (h, e, f) (sym w)
 
 pub take-one : (l : List ℕ) → 1 ≤ length l → take 1 l ≡ getD l 0 0 ∷ []
 take-one [] h = absurd (omega arith)
@@ -134,27 +90,27 @@ two-or-more (suc zero) f g = absurd (g refl)
 two-or-more (suc (suc n)) f g = omega arith
 
 -- so many functions, one turn at a time
-module _ (top vars : ℕ) (sizes : List ℕ) (left m : ℕ) (d : Draft) (text : Text) (at : ℕ) (e : left ≡ suc m) (r : Step) (scopes starts work : List ℕ)
-    (h : stepIs top vars sizes r scopes starts work ≡ function d text at) where
+module _ (left m : ℕ) (d : Draft) (text : Text) (at : ℕ) (e : left ≡ suc m) (r : Step) (sizes scopes starts work : List ℕ)
+    (h : stepIs r sizes scopes starts work ≡ function d text at) where
   pub functions-stop : (answer : Answer) → r ≡ S.Refused answer → functions left d text at ≡ refused answer
   unfolding functions andThen
   functions-stop answer f = rw (e, ← h, f)
 
-  pub functions-more : (state : State) → r ≡ S.To state → functions left d text at ≡ functions m (draftOf top vars sizes state scopes starts work) text (state .next)
+  pub functions-more : (o : Outline) (next : ℕ) → r ≡ S.To o next → functions left d text at ≡ functions m (draftOf o sizes scopes starts work) text next
   unfolding functions andThen
-  functions-more state f = rw (e, ← h, f)
+  functions-more o next f = rw (e, ← h, f)
 
 pub functions-end : (left : ℕ) (d : Draft) (text : Text) (at : ℕ) → left ≡ 0 → functions left d text at ≡ got d at
 unfolding functions
 functions-end left d text at e = rw e
 
 -- the counts that one function leaves
-pub counted-to : (state after : State) (r : Step) → r ≡ S.To after → Counted state r
-    → (state .entries ≤ after .entries) × (after .entries ≤ max (state .entries) entriesMost) × (after .functions ≤ state .functions + 1)
-counted-to state after r e h = rw e at h
+pub counted-to : (o after : Outline) (next : ℕ) (r : Step) → r ≡ S.To after next → Counted o r
+    → (after .vars ≡ o .vars) × (o .entries ≤ after .entries) × (after .entries ≤ max (o .entries) entriesMost) × (after .functions ≤ o .functions + 1)
+counted-to o after next r e h = rw e at h
 
-pub held-more : (vars : ℕ) (sizes : List ℕ) (entries after : ℕ) → Held vars sizes entries → entries ≤ after → after ≤ max entries entriesMost → Held vars sizes after
-held-more vars sizes entries after h l m = record { vars-few = h .vars-few; sized = h .sized; small = h .small; unary = omega (arith, h .unary); few = omega (arith, h .few) }
+pub begun-more : (o after : Outline) (sizes : List ℕ) → Begun o sizes → after .vars ≡ o .vars → o .entries ≤ after .entries → after .entries ≤ max (o .entries) entriesMost → Begun after sizes
+begun-more o after sizes h e l m = record { ranged = rw e (h .ranged); unary = rw e (omega (arith, h .unary)); few = omega (arith, h .few) }
 
-pub counted-in : (after : State) (r : Step) → r ≡ S.To after → CountedIn r → after .entries ≤ entriesMost
-counted-in after r e h = rw e at h
+pub counted-in : (after : Outline) (next : ℕ) (r : Step) → r ≡ S.To after next → CountedIn r → after .entries ≤ entriesMost
+counted-in after next r e h = rw e at h

@@ -1,3 +1,1 @@
-pub mod ScopeLaws
-pub mod StretchLaws
 pub mod FunctionLaws

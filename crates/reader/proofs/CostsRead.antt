@@ -13,20 +13,16 @@ use Rattle.costs.proofs.NetLaws.{All-append}
 use Rattle.tokens.specs.Tokens.{Text}
 use Rattle.tokens.specs.Steps.{got}
 use Rattle.tokens.proofs.StepLaws.{and-then, same-value}
-use Rattle.function_costs.specs.Sizes.{product}
-use Rattle.function_costs.specs.Listed.{unlisted, listing, settled, listed}
-use Rattle.function_costs.specs.Soft.{gapCost, softCost, tabulate, softCosts}
+use Rattle.stretches.specs.Sizes.{product}
+use Rattle.listed_costs.specs.Listed.{unlisted, listing, settled, listed}
+use Rattle.costs.specs.Range.{listTo}
+use Rattle.soft_sums.specs.Soft.{gapCost, softCost, softCosts}
 use Rattle.function_costs.specs.FunctionCosts.{marked, costs}
-use Rattle.functions.specs.Functions.{sums}
-use Rattle.function_costs.specs.declared.soft.Soft.{Soft}
-
--- each cost of a list is at most k
-abbrev pub Capped : ℕ → List ℕ → Type 0
-Capped top cs = All (λ c. c ≤ top) cs
-
-pub record Costed (top many : ℕ) (cs : List ℕ) : Type 0 where
-  pub many-are : length cs ≡ many
-  pub capped : Capped top cs
+use Rattle.placing.specs.Drafts.{sums}
+use Rattle.soft_sums.specs.declared.Mode.{Mode}
+use Rattle.soft_sums.specs.declared.Mode.the-variants.{Hard, Lin, Quad}
+use Rattle.soft_sums.specs.declared.Soft.{Soft}
+use Rattle.reader.specs.ties.Fine.{Capped, Costed}
 
 module _ (P : ℕ → Type 0) where
   pub all-take : (n : ℕ) (xs : List ℕ) → All P xs → All P (take n xs)
@@ -98,26 +94,25 @@ listed-costed top ds most text at cs next e =
       capped = settled-capped top (min top (default .0 .value)) (cells .0) (omega arith) (r .1);
     })
 
-gap-capped : (top mode base g : ℕ) → gapCost top mode base g ≤ top
+gap-capped : (top : ℕ) (mode : Mode) (base g : ℕ) → gapCost top mode base g ≤ top
 unfolding gapCost
-gap-capped top mode base g = go (eqb mode 0) (eqb g 0) (eqb mode 1)
+gap-capped top Hard base g = go (eqb g 0)
   where
-    go : (a b c : Bool) → cond a (cond b 0 top) (cond c (min top (base * g)) (min top (base * (g * g)))) ≤ top
-    go true true c = omega arith
-    go true false c = omega arith
-    go false b true = omega arith
-    go false b false = omega arith
+    go : (b : Bool) → cond b 0 top ≤ top
+    go true = omega arith
+    go false = omega arith
+gap-capped top Lin base g = omega arith
+gap-capped top Quad base g = omega arith
 
-tabulated : (top : ℕ) (n : ℕ) (g : ℕ → ℕ) → ((e : ℕ) → g e ≤ top) → Costed top n (tabulate n g)
-unfolding tabulate
-tabulated top zero g h = record { many-are = refl; capped = tt }
-tabulated top (suc n) g h =
-    let r = tabulated top n g h in
-    record { many-are = omega (arith, length-append (tabulate n g) (g n ∷ []), r .many-are); capped = All-append (λ c. c ≤ top) (tabulate n g) (g n ∷ []) (r .capped) (h n, tt) }
+listed-to : (top : ℕ) (n : ℕ) (g : ℕ → ℕ) → ((e : ℕ) → g e ≤ top) → Costed top n (listTo n g)
+listed-to top zero g h = record { many-are = refl; capped = tt }
+listed-to top (suc n) g h =
+    let r = listed-to top n g h in
+    record { many-are = omega (arith, length-append (listTo n g) (g n ∷ []), r .many-are); capped = All-append (λ c. c ≤ top) (listTo n g) (g n ∷ []) (r .capped) (h n, tt) }
 
 soft-costed : (top : ℕ) (ds : List ℕ) (soft : Soft) → Costed top (product ds) (softCosts top ds soft)
 unfolding softCosts softCost
-soft-costed top ds soft = tabulated top (product ds) _ (λ e. gap-capped top _ _ _)
+soft-costed top ds soft = listed-to top (product ds) (softCost top soft ds) (λ e. gap-capped top _ _ _)
 
 marked-costed : (top : ℕ) (ds : List ℕ) (text : Text) (at : ℕ) (cs : List ℕ) (next : ℕ) → got cs next ≡ marked top ds text at → Costed top (product ds) cs
 unfolding marked

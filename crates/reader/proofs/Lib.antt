@@ -1,5 +1,3 @@
-pub mod DomainLaws
-pub mod HeaderLaws
 pub mod ReadingLaws
 pub mod AlikeTexts
 pub mod CostsRead

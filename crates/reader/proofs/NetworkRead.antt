@@ -10,103 +10,106 @@ use native.Mathlib.Decide.{ℕ-discrete, decLt}
 use lib.Dec.{T, ltb, leb, lt→ltb}
 use lib.ListN.{length, getD, take, drop, set, replicate, length-append, length-set, length-take, length-drop, length-replicate, List·getD-append}
 use lib.Seq.{getD-set-same, getD-set-other}
-use Rattle.costs.specs.Limits.{varsMost, sizeMost, functionsMost, costMost, entriesMost}
+use Rattle.costs.specs.Limits.{varsMost, sizeMost, arityMost, rowPlaces, functionsMost, costMost, entriesMost}
 use Rattle.costs.specs.Net.{All, tuples, start, entries}
 use Rattle.costs.specs.Networks.{inRow, scopeIn, stands}
-use Rattle.costs.specs.Judging.{different, isNetwork}
+use Rattle.costs.specs.Tests.{different}
+use Rattle.judging.specs.Judging.{isNetwork, IsNetwork}
 use Rattle.costs.specs.declared.networks.Network.{Network}
-use Rattle.costs.specs.declared.answers.Answer.the-variants.{LongText, ShortTable}
-use Rattle.costs.proofs.TestLaws.{is-true}
+use Rattle.answers.specs.declared.Answer.the-variants.{LongText, ShortTable}
+use Rattle.costs.proofs.TestLaws.{is-true, by-different}
 use Rattle.costs.proofs.RangeLaws.{sumTo-same, sumTo-mono}
 use Rattle.costs.proofs.NetLaws.{All-append, All-at}
 use Rattle.costs.proofs.RowLaws.{scope-unary, scope-function}
-use Rattle.costs.proofs.JudgeLaws.{IsNetwork, by-network, by-different}
+use Rattle.judging.proofs.JudgeLaws.{by-network}
 use Rattle.tokens.specs.Tokens.{Text, textOf}
 use Rattle.tokens.specs.Steps.{Got, got, refused}
 use Rattle.tokens.proofs.StepLaws.{and-then, same-value}
 use Rattle.tokens.proofs.NumberLaws.{in-range}
-use Rattle.function_costs.specs.FunctionLimits.{arityMost}
 use Rattle.reader.specs.ReaderLimits.{textMost}
-use Rattle.reader.specs.Domains.{Sized}
-use Rattle.functions.specs.Scopes.{sizesOf}
-use Rattle.function_costs.specs.Sizes.{product}
-use Rattle.functions.specs.Functions.{Draft, sums, unaryStart, addedAt, withFunction, rowSet, put, placed, function, functions}
+use Rattle.headings.specs.Domains.{Sized}
+use Rattle.scopes.specs.Scopes.{scopeSizes}
+use Rattle.stretches.specs.Sizes.{product}
+use Rattle.placing.specs.Drafts.{Draft, sums, unaryStart, addedAt, withFunction, rowSet, put}
+use Rattle.functions.specs.Functions.{placed, function, functions}
 use Rattle.function_costs.specs.FunctionCosts.{costs}
-use Rattle.reader.specs.Reading.{started, body, network, fitted, reading, tableAfter}
-use Rattle.reader.specs.declared.headers.Head.{Head}
-use Rattle.reader.proofs.HeaderLaws.{InRange, header-range}
-use Rattle.reader.proofs.DomainLaws.{Good, domains-good, none-good, total-most}
-use Rattle.functions.proofs.ScopeLaws.{scope-known}
-use Rattle.functions.proofs.StretchLaws.{sums-length}
-use Rattle.reader.proofs.CostsRead.{Capped, Costed, costs-costed, capped-sums, all-take, all-drop, all-replicate}
+use Rattle.reader.specs.Reading.{started, rest, body, network, fitted, reading, tableAfter}
+use Rattle.headings.specs.declared.headers.Head.{Head}
+use Rattle.headings.specs.ties.Ranges.{InRange, Good}
+use Rattle.headings.proofs.HeaderLaws.{header-range}
+use Rattle.headings.proofs.DomainLaws.{domains-good, none-good, total-most}
+use Rattle.scopes.proofs.ScopeLaws.{scope-known}
+use Rattle.placing.proofs.StretchLaws.{sums-length}
+use Rattle.reader.specs.ties.Fine.{Costed, Fine}
+use Rattle.reader.proofs.CostsRead.{costs-costed, capped-sums, all-take, all-drop, all-replicate}
 
 -- ---- rows
 -- a row's places are set one after the other
 module _ (rows : List ℕ) (f : ℕ) (xs : List ℕ) where
   abbrev one : List ℕ
-  one = set rows (f * 4) (length xs)
+  one = set rows (f * rowPlaces) (length xs)
 
   abbrev two : List ℕ
-  two = set one (f * 4 + 1) (getD xs 0 0)
+  two = set one (f * rowPlaces + 1) (getD xs 0 0)
 
   abbrev three : List ℕ
-  three = set two (f * 4 + 2) (getD xs 1 0)
+  three = set two (f * rowPlaces + 2) (getD xs 1 0)
 
-  row-other : (g j : ℕ) → g ≢ f → j < 4 → inRow (rowSet rows f xs) g j ≡ inRow rows g j
+  row-other : (g j : ℕ) → g ≢ f → j < rowPlaces → inRow (rowSet rows f xs) g j ≡ inRow rows g j
   row-other g j q l =
-      getD-set-other three (f * 4 + 3) (g * 4 + j) (getD xs 2 0) 0 (λ e. omega arith)
-      ∙ getD-set-other two (f * 4 + 2) (g * 4 + j) (getD xs 1 0) 0 (λ e. omega arith)
-      ∙ getD-set-other one (f * 4 + 1) (g * 4 + j) (getD xs 0 0) 0 (λ e. omega arith)
-      ∙ getD-set-other rows (f * 4) (g * 4 + j) (length xs) 0 (λ e. omega arith)
+      getD-set-other three (f * rowPlaces + 3) (g * rowPlaces + j) (getD xs 2 0) 0 (λ e. omega arith)
+      ∙ getD-set-other two (f * rowPlaces + 2) (g * rowPlaces + j) (getD xs 1 0) 0 (λ e. omega arith)
+      ∙ getD-set-other one (f * rowPlaces + 1) (g * rowPlaces + j) (getD xs 0 0) 0 (λ e. omega arith)
+      ∙ getD-set-other rows (f * rowPlaces) (g * rowPlaces + j) (length xs) 0 (λ e. omega arith)
 
-  module _ (long : length rows ≡ functionsMost * 4) (few : f < functionsMost) where
-    one-long : length one ≡ functionsMost * 4
-    one-long = length-set rows (f * 4) (length xs) ∙ long
+  module _ (long : length rows ≡ functionsMost * rowPlaces) (few : f < functionsMost) where
+    one-long : length one ≡ functionsMost * rowPlaces
+    one-long = length-set rows (f * rowPlaces) (length xs) ∙ long
 
-    two-long : length two ≡ functionsMost * 4
-    two-long = length-set one (f * 4 + 1) (getD xs 0 0) ∙ one-long
+    two-long : length two ≡ functionsMost * rowPlaces
+    two-long = length-set one (f * rowPlaces + 1) (getD xs 0 0) ∙ one-long
 
-    three-long : length three ≡ functionsMost * 4
-    three-long = length-set two (f * 4 + 2) (getD xs 1 0) ∙ two-long
+    three-long : length three ≡ functionsMost * rowPlaces
+    three-long = length-set two (f * rowPlaces + 2) (getD xs 1 0) ∙ two-long
 
     row-arity : inRow (rowSet rows f xs) f 0 ≡ length xs
     row-arity =
-        getD-set-other three (f * 4 + 3) (f * 4 + 0) (getD xs 2 0) 0 (λ e. omega arith)
-        ∙ getD-set-other two (f * 4 + 2) (f * 4 + 0) (getD xs 1 0) 0 (λ e. omega arith)
-        ∙ getD-set-other one (f * 4 + 1) (f * 4 + 0) (getD xs 0 0) 0 (λ e. omega arith)
-        ∙ (let z : f * 4 + 0 ≡ f * 4 = omega arith in rw z (getD-set-same rows (f * 4) (length xs) 0 (omega arith)))
+        getD-set-other three (f * rowPlaces + 3) (f * rowPlaces + 0) (getD xs 2 0) 0 (λ e. omega arith)
+        ∙ getD-set-other two (f * rowPlaces + 2) (f * rowPlaces + 0) (getD xs 1 0) 0 (λ e. omega arith)
+        ∙ getD-set-other one (f * rowPlaces + 1) (f * rowPlaces + 0) (getD xs 0 0) 0 (λ e. omega arith)
+        ∙ (let z : f * rowPlaces + 0 ≡ f * rowPlaces = omega arith in rw z (getD-set-same rows (f * rowPlaces) (length xs) 0 (omega arith)))
 
     row-first : inRow (rowSet rows f xs) f 1 ≡ getD xs 0 0
     row-first =
-        getD-set-other three (f * 4 + 3) (f * 4 + 1) (getD xs 2 0) 0 (λ e. omega arith)
-        ∙ getD-set-other two (f * 4 + 2) (f * 4 + 1) (getD xs 1 0) 0 (λ e. omega arith)
-        ∙ getD-set-same one (f * 4 + 1) (getD xs 0 0) 0 (omega (arith, one-long))
+        getD-set-other three (f * rowPlaces + 3) (f * rowPlaces + 1) (getD xs 2 0) 0 (λ e. omega arith)
+        ∙ getD-set-other two (f * rowPlaces + 2) (f * rowPlaces + 1) (getD xs 1 0) 0 (λ e. omega arith)
+        ∙ getD-set-same one (f * rowPlaces + 1) (getD xs 0 0) 0 (omega (arith, one-long))
 
     row-second : inRow (rowSet rows f xs) f 2 ≡ getD xs 1 0
     row-second =
-        getD-set-other three (f * 4 + 3) (f * 4 + 2) (getD xs 2 0) 0 (λ e. omega arith)
-        ∙ getD-set-same two (f * 4 + 2) (getD xs 1 0) 0 (omega (arith, two-long))
+        getD-set-other three (f * rowPlaces + 3) (f * rowPlaces + 2) (getD xs 2 0) 0 (λ e. omega arith)
+        ∙ getD-set-same two (f * rowPlaces + 2) (getD xs 1 0) 0 (omega (arith, two-long))
 
     row-third : inRow (rowSet rows f xs) f 3 ≡ getD xs 2 0
-    row-third = getD-set-same three (f * 4 + 3) (getD xs 2 0) 0 (omega (arith, three-long))
+    row-third = getD-set-same three (f * rowPlaces + 3) (getD xs 2 0) 0 (omega (arith, three-long))
 
-    row-long : length (rowSet rows f xs) ≡ functionsMost * 4
-    row-long = length-set three (f * 4 + 3) (getD xs 2 0) ∙ three-long
+    row-long : length (rowSet rows f xs) ≡ functionsMost * rowPlaces
+    row-long = length-set three (f * rowPlaces + 3) (getD xs 2 0) ∙ three-long
 
 scope-same : (row like : ℕ → ℕ) → row 0 ≡ like 0 → row 1 ≡ like 1 → row 2 ≡ like 2 → row 3 ≡ like 3 → scopeIn row ≡ scopeIn like
 scope-same row like a b c d = rw (a, b, c, d)
 
-scope-is : (row : ℕ → ℕ) (xs : List ℕ) → row 0 ≡ length xs → row 1 ≡ getD xs 0 0 → row 2 ≡ getD xs 1 0 → row 3 ≡ getD xs 2 0 → 2 ≤ length xs → length xs ≤ 3 → scopeIn row ≡ xs
+scope-is : (row : ℕ → ℕ) (xs : List ℕ) → row 0 ≡ length xs → row 1 ≡ getD xs 0 0 → row 2 ≡ getD xs 1 0 → row 3 ≡ getD xs 2 0 → 2 ≤ length xs → length xs ≤ arityMost → scopeIn row ≡ xs
 scope-is row xs a b c d h l = rw (a, b, c, d) (go xs h l)
   where
-    go : (xs : List ℕ) → 2 ≤ length xs → length xs ≤ 3 → take (length xs) (getD xs 0 0 ∷ getD xs 1 0 ∷ getD xs 2 0 ∷ []) ≡ xs
+    go : (xs : List ℕ) → 2 ≤ length xs → length xs ≤ arityMost → take (length xs) (getD xs 0 0 ∷ getD xs 1 0 ∷ getD xs 2 0 ∷ []) ≡ xs
     go [] h l = absurd (omega arith)
     go (x ∷ []) h l = absurd (omega arith)
     go (x ∷ y ∷ []) h l = refl
     go (x ∷ y ∷ z ∷ []) h l = refl
     go (x ∷ y ∷ z ∷ w ∷ ws) h l = absurd (omega arith)
 
-scope-here : (rows : List ℕ) (f : ℕ) (xs : List ℕ) → length rows ≡ functionsMost * 4 → f < functionsMost → 2 ≤ length xs → length xs ≤ 3 → scopeIn (inRow (rowSet rows f xs) f) ≡ xs
+scope-here : (rows : List ℕ) (f : ℕ) (xs : List ℕ) → length rows ≡ functionsMost * rowPlaces → f < functionsMost → 2 ≤ length xs → length xs ≤ arityMost → scopeIn (inRow (rowSet rows f xs) f) ≡ xs
 scope-here rows f xs long few h l =
     scope-is (inRow (rowSet rows f xs) f) xs (row-arity rows f xs long few) (row-first rows f xs long few) (row-second rows f xs long few) (row-third rows f xs long few) h l
 
@@ -115,7 +118,7 @@ scope-other rows f xs g q =
     scope-same (inRow (rowSet rows f xs) g) (inRow rows g) (row-other rows f xs g 0 q (omega arith)) (row-other rows f xs g 1 q (omega arith)) (row-other rows f xs g 2 q (omega arith)) (row-other rows f xs g 3 q (omega arith))
 
 -- ---- stretches, where a function is added
-product-tuples : (sizes xs : List ℕ) → product (sizesOf sizes xs) ≡ tuples (λ v. getD sizes v 0) xs
+product-tuples : (sizes xs : List ℕ) → product (scopeSizes sizes xs) ≡ tuples (λ v. getD sizes v 0) xs
 unfolding product
 product-tuples sizes [] = refl
 product-tuples sizes (x ∷ xs) = ap (λ (n : ℕ). getD sizes x 0 * n) (product-tuples sizes xs)
@@ -136,30 +139,11 @@ module _ (net : Network) (xs : List ℕ) (at : ℕ) where
       sumTo-same s (λ r. tuples (stands net .size) (stands net .scope r)) (λ r. tuples (stands net .size) (stands (withFunction net xs at) .scope r))
       (λ r l. ap (tuples (stands net .size)) (part-same r (omega arith)))
 
--- ---- a draft that is a network so far, with so many functions to come
-pub record Fine (left : ℕ) (d : Draft) : Type 0 where
-  pub top-some : 1 ≤ d .net .top
-  pub top-most : d .net .top ≤ costMost
-  pub constant : d .net .constant ≤ d .net .top
-  pub vars-few : d .net .vars ≤ varsMost
-  pub functions-few : d .net .functions + left ≤ functionsMost
-  pub some : (v : ℕ) → v < d .net .vars → 1 ≤ getD (d .net .sizes) v 0
-  pub most : (v : ℕ) → getD (d .net .sizes) v 0 ≤ sizeMost
-  pub rows-long : length (d .net .scopes) ≡ functionsMost * 4
-  pub starts-long : length (d .net .starts) ≡ functionsMost
-  pub arities : (f : ℕ) → f < d .net .functions → (2 ≤ inRow (d .net .scopes) f 0) × (inRow (d .net .scopes) f 0 ≤ 3)
-  pub known : (f : ℕ) → f < d .net .functions → All (λ v. v < d .net .vars) (scopeIn (inRow (d .net .scopes) f))
-  pub distinct : (f : ℕ) → f < d .net .functions → T (different (scopeIn (inRow (d .net .scopes) f)))
-  pub placed-at : (f : ℕ) → f < d .net .functions → getD (d .net .starts) f 0 ≡ start (stands (d .net)) (d .net .vars + f)
-  pub few : length (d .table) ≤ entriesMost
-  pub whole : length (d .table) ≡ entries (stands (d .net))
-  pub capped : Capped (d .net .top) (d .table)
-
 -- where the unary stretches end
 unary-entries : (net : Network) → start (stands net) (net .vars) ≡ unaryStart (net .sizes) (net .vars)
 unary-entries net =
     sumTo-same (net .vars) (λ v. getD (net .sizes) v 0) (λ r. tuples (stands net .size) (stands net .scope r))
-    (λ v l. rw (scope-unary (net .top) (net .vars) (net .functions) (net .sizes) (net .scopes) v l) (mul-one (getD (net .sizes) v 0)))
+    (λ v l. rw (scope-unary (net .vars) (net .scopes) v l) (mul-one (getD (net .sizes) v 0)))
 
 unary-few : (left : ℕ) (d : Draft) → Fine left d → unaryStart (d .net .sizes) (d .net .vars) ≤ length (d .table)
 unary-few left d h =
@@ -228,15 +212,15 @@ fine-one left d x cs l h =
     }
 
 -- arity 2 and 3: what holds of each row that was there holds, and of the new one
-each-row : (P : List ℕ → Type 0) (rows : List ℕ) (f : ℕ) (xs : List ℕ) → length rows ≡ functionsMost * 4 → f < functionsMost → 2 ≤ length xs → length xs ≤ 3
+each-row : (P : List ℕ → Type 0) (rows : List ℕ) (f : ℕ) (xs : List ℕ) → length rows ≡ functionsMost * rowPlaces → f < functionsMost → 2 ≤ length xs → length xs ≤ arityMost
     → ((g : ℕ) → g < f → P (scopeIn (inRow rows g))) → P xs → (g : ℕ) → g < f + 1 → P (scopeIn (inRow (rowSet rows f xs) g))
 each-row P rows f xs long few two three h p g l = elim (ℕ-discrete g f) [
   | yes q ↦ rw (q, scope-here rows f xs long few two three) p
   | no q ↦ rw (scope-other rows f xs g q) (h g (omega arith))
 ]
 
-fine-more : (left : ℕ) (d : Draft) (xs cs : List ℕ) → 2 ≤ length xs → length xs ≤ 3 → All (λ v. v < d .net .vars) xs → T (different xs)
-    → length (d .table) + product (sizesOf (d .net .sizes) xs) ≤ entriesMost → Costed (d .net .top) (product (sizesOf (d .net .sizes) xs)) cs
+fine-more : (left : ℕ) (d : Draft) (xs cs : List ℕ) → 2 ≤ length xs → length xs ≤ arityMost → All (λ v. v < d .net .vars) xs → T (different xs)
+    → length (d .table) + product (scopeSizes (d .net .sizes) xs) ≤ entriesMost → Costed (d .net .top) (product (scopeSizes (d .net .sizes) xs)) cs
     → Fine (suc left) d → Fine left (record { net = withFunction (d .net) xs (length (d .table)); table = d .table ++ cs })
 fine-more left d xs cs two three all distinct room c h =
     let net = d .net in
@@ -245,10 +229,10 @@ fine-more left d xs cs two three all distinct room c h =
     let few : f < functionsMost = omega (arith, h .functions-few) in
     let n : net .vars + (f + 1) ≡ suc (net .vars + f) = omega arith in
     let scope : stands (withFunction net xs at) .scope (net .vars + f) ≡ xs =
-    scope-function (net .top) (net .vars) (f + 1) (net .sizes) (rowSet (net .scopes) f xs) f ∙ scope-here (net .scopes) f xs (h .rows-long) few two three in
-    let long : length (d .table ++ cs) ≡ at + product (sizesOf (net .sizes) xs) = omega (arith, length-append (d .table) cs, c .many-are) in
+    scope-function (net .vars) (rowSet (net .scopes) f xs) f ∙ scope-here (net .scopes) f xs (h .rows-long) few two three in
+    let long : length (d .table ++ cs) ≡ at + product (scopeSizes (net .sizes) xs) = omega (arith, length-append (d .table) cs, c .many-are) in
     let before = start-same net xs at (net .vars + f) (omega arith) in
-    let after : tuples (stands net .size) (stands (withFunction net xs at) .scope (net .vars + f)) ≡ product (sizesOf (net .sizes) xs) = rw scope (sym (product-tuples (net .sizes) xs)) in
+    let after : tuples (stands net .size) (stands (withFunction net xs at) .scope (net .vars + f)) ≡ product (scopeSizes (net .sizes) xs) = rw scope (sym (product-tuples (net .sizes) xs)) in
     record {
       top-some = h .top-some;
       top-most = h .top-most;
@@ -275,8 +259,8 @@ fine-more left d xs cs two three all distinct room c h =
     }
 
 -- ---- one function, and all of them
-fine-put : (left : ℕ) (d : Draft) (xs cs : List ℕ) → length xs ≤ 3 → All (λ v. v < d .net .vars) xs → T (different xs)
-    → (2 ≤ length xs → length (d .table) + product (sizesOf (d .net .sizes) xs) ≤ entriesMost) → Costed (d .net .top) (product (sizesOf (d .net .sizes) xs)) cs
+fine-put : (left : ℕ) (d : Draft) (xs cs : List ℕ) → length xs ≤ arityMost → All (λ v. v < d .net .vars) xs → T (different xs)
+    → (2 ≤ length xs → length (d .table) + product (scopeSizes (d .net .sizes) xs) ≤ entriesMost) → Costed (d .net .top) (product (scopeSizes (d .net .sizes) xs)) cs
     → Fine (suc left) d → Fine left (put d xs cs)
 fine-put left d [] cs three all distinct room c h = fine-none left d cs h
 fine-put left d (x ∷ []) cs three all distinct room c h = fine-one left d x cs (all .0) h
@@ -289,12 +273,12 @@ function-fine left d text at out next e h =
     let xs = and-then _ _ _ _ (arity .3) in
     let k = scope-known (d .net .vars) (d .net .sizes) (length (d .table)) (arity .0 .value) [] text (arity .1) (xs .0) (xs .1) (sym (xs .2)) in
     let few = in-range 0 arityMost text at (arity .0) (arity .1) (sym (arity .2)) .1 in
-    go (xs .0) (costs (d .net .top) (sizesOf (d .net .sizes) (xs .0)) text (xs .1)) (omega (arith, k .count)) (k .known tt) (k .distinct tt)
-    (λ l. k .room (omega (arith, k .count)) l) (λ cs n f. costs-costed (d .net .top) (sizesOf (d .net .sizes) (xs .0)) text (xs .1) cs n f) (xs .3)
+    go (xs .0) (costs (d .net .top) (scopeSizes (d .net .sizes) (xs .0)) text (xs .1)) (omega (arith, k .count)) (k .known tt) (k .distinct tt)
+    (λ l. k .room (omega (arith, k .count)) l) (λ cs n f. costs-costed (d .net .top) (scopeSizes (d .net .sizes) (xs .0)) text (xs .1) cs n f) (xs .3)
   where
-    go : (xs : List ℕ) (g : Got (List ℕ)) → length xs ≤ 3 → All (λ v. v < d .net .vars) xs → T (different xs)
-        → (2 ≤ length xs → length (d .table) + product (sizesOf (d .net .sizes) xs) ≤ entriesMost)
-        → ((cs : List ℕ) (n : ℕ) → got cs n ≡ g → Costed (d .net .top) (product (sizesOf (d .net .sizes) xs)) cs) → got out next ≡ placed d xs g → Fine left out
+    go : (xs : List ℕ) (g : Got (List ℕ)) → length xs ≤ arityMost → All (λ v. v < d .net .vars) xs → T (different xs)
+        → (2 ≤ length xs → length (d .table) + product (scopeSizes (d .net .sizes) xs) ≤ entriesMost)
+        → ((cs : List ℕ) (n : ℕ) → got cs n ≡ g → Costed (d .net .top) (product (scopeSizes (d .net .sizes) xs)) cs) → got out next ≡ placed d xs g → Fine left out
     go xs (got cs n) three all distinct room c e = let q : out ≡ put d xs cs = same-value _ _ _ _ e in rw q (fine-put left d xs cs three all distinct room (c cs n refl) h)
     go xs (refused a) three all distinct room c e = absurd (let z : _≡_ {A = ℕ} 0 1 = cc in omega arith)
 
@@ -318,7 +302,7 @@ started-fine head sized r g =
       functions-few = omega (arith, r .functions-few);
       some = g .some;
       most = g .most;
-      rows-long = length-replicate {A = ℕ} (functionsMost * 4) 0;
+      rows-long = length-replicate {A = ℕ} (functionsMost * rowPlaces) 0;
       starts-long = length-replicate {A = ℕ} functionsMost 0;
       arities = λ f l. absurd (omega arith);
       known = λ f l. absurd (omega arith);
@@ -331,7 +315,7 @@ started-fine head sized r g =
 
 -- ---- the whole text
 network-fine : (text : Text) (at : ℕ) (out : Draft) (next : ℕ) → got out next ≡ network text at → Fine 0 out
-unfolding network body
+unfolding network body rest
 network-fine text at out next e =
     let head = and-then _ _ _ _ e in
     let sized = and-then _ _ _ _ (head .3) in
@@ -346,16 +330,23 @@ network-fine text at out next e =
 fine-network : (d : Draft) (rest : List ℕ) → Fine 0 d → IsNetwork (d .net) (d .table ++ rest)
 fine-network d rest h = record {
   top-some = h .top-some;
-  top-most = h .top-most;
-  constant = h .constant;
-  vars-few = h .vars-few;
-  functions-few = omega (arith, h .functions-few);
-  sizes = λ v l. (h .some v l, h .most v);
-  arities = h .arities;
-  known = h .known;
+  ready = record {
+    top-most = h .top-most;
+    constant-most = h .constant;
+    scoped = record {
+      vars-few = h .vars-few;
+      functions-few = omega (arith, h .functions-few);
+      sized = h .some;
+      small = λ v l. h .most v;
+      arity-least = λ f l. h .arities f l .0;
+      arity-most = λ f l. h .arities f l .1;
+      known = h .known;
+    };
+    placed = h .placed-at;
+    entries-is = refl;
+    few = omega (arith, h .whole, h .few);
+  };
   distinct = λ f l. by-different (scopeIn (inRow (d .net .scopes) f)) .says (h .distinct f l);
-  placed = h .placed-at;
-  few = omega (arith, h .whole, h .few);
   costs = λ j l m. let k : j < length (d .table) = omega (arith, h .whole) in rw (List·getD-append (d .table) rest 0 j k) (All-at (λ c. c ≤ d .net .top) (d .table) (h .capped) j k);
 }
 

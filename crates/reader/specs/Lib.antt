@@ -1,5 +1,4 @@
 pub mod ReaderLimits
-pub mod Headers
-pub mod Domains
 pub mod Reading
 pub mod Examples
+pub mod ties

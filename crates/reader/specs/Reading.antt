@@ -1,26 +1,22 @@
 -- The whole text: "1 first; then the first offending token, lowest number first; 7 last".
-use Prim.Native.Nat.{ℕ, _*_, _≤_}
+use Prim.Native.Nat.{ℕ, _*_}
 use mathlib.Core.Bool.{cond}
 use mathlib.Core.List.{List, _++_}
 use lib.Dec.{leb}
 use lib.ListN.{length, drop, replicate}
-use Rattle.costs.specs.Limits.{varsMost, functionsMost}
+use Rattle.costs.specs.Limits.{varsMost, rowPlaces, functionsMost}
 use Rattle.costs.specs.declared.networks.Network.{Network}
-use Rattle.costs.specs.declared.answers.Answer.the-variants.{Done, LongText, ShortTable}
+use Rattle.answers.specs.declared.Answer.the-variants.{Done, LongText, ShortTable}
 use Rattle.tokens.specs.Tokens.{textOf}
 use Rattle.tokens.specs.Steps.{Got, got, refused, Reads, _>>=_, _>>_, pure}
 use Rattle.tokens.specs.Words.{finish}
 use Rattle.reader.specs.ReaderLimits.{textMost}
-use Rattle.reader.specs.Headers.{header}
-use Rattle.reader.specs.Domains.{Sized, domains}
-use Rattle.functions.specs.Functions.{Draft, functions}
-use Rattle.reader.specs.declared.headers.Head.{Head}
+use Rattle.headings.specs.Headers.{header}
+use Rattle.headings.specs.Domains.{Sized, domains}
+use Rattle.placing.specs.Drafts.{Draft}
+use Rattle.functions.specs.Functions.{functions}
+use Rattle.headings.specs.declared.headers.Head.{Head}
 use Rattle.reader.specs.declared.reading.Reading.{Reading}
-
--- what is known of a header that was read
-pub record Bounded (head : Head) : Type 0 where
-  pub vars-few : head .vars ≤ varsMost
-  pub functions-few : head .functions ≤ functionsMost
 
 -- no function yet: every cost is 0
 abbrev pub started : Head → Sized → Draft
@@ -31,19 +27,24 @@ started head sized = record {
     vars = head .vars;
     sizes = sized .sizes;
     functions = 0;
-    scopes = replicate (functionsMost * 4) 0;
+    scopes = replicate (functionsMost * rowPlaces) 0;
     starts = replicate functionsMost 0;
   };
   table = replicate (sized .entries) 0;
 }
 
+-- what follows the sizes
+unfoldable pub rest : Head → Sized → Reads Draft
+rest head sized = do
+  d ← functions (head .functions) (started head sized)
+  finish
+  pure d
+
 -- what follows the header
 unfoldable pub body : Head → Reads Draft
 body head = do
   sized ← domains (head .greatest) (head .vars) 0 0 0 (replicate varsMost 0)
-  d ← functions (head .functions) (started head sized)
-  finish
-  pure d
+  rest head sized
 
 unfoldable pub network : Reads Draft
 network = do
@@ -66,7 +67,7 @@ noNetwork = record {
   vars = 0;
   sizes = replicate varsMost 0;
   functions = 0;
-  scopes = replicate (functionsMost * 4) 0;
+  scopes = replicate (functionsMost * rowPlaces) 0;
   starts = replicate functionsMost 0;
 }
 

@@ -1,9 +1,9 @@
 // The reader as C and Rust hosts call it, to be timed beside readers that are not Rattle.
 ghost use mathlib.Core.Path.{_≡_};
 ghost use lib.ListN.{length};
-ghost use Rattle.costs.specs.Answers.{numberOf};
+ghost use Rattle.answers.specs.Answers.{numberOf};
 ghost use Rattle.reader.specs.Reading.{reading, answered, tableAfter};
-use costs::answers::number;
+use answers::number;
 
 // Reads the text into the lent table, and hands back the number of the refusal, or 0.
 #[no_mangle]

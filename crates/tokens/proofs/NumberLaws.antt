@@ -4,14 +4,14 @@ use mathlib.Core.Path.{_≡_}
 use Rattle.costs.proofs.TestLaws.{by-and, by-leb, so}
 use Rattle.tokens.specs.Tokens.{Text}
 use Rattle.tokens.specs.Steps.{got}
-use Rattle.tokens.specs.Numbers.{number}
+use Rattle.tokens.specs.Numbers.{numberIn}
 use Rattle.tokens.specs.declared.numbers.Seen.{Seen}
 use Rattle.tokens.proofs.StepLaws.{and-then, demanded, same-value}
 
 -- it is in its range
-pub in-range : (least most : ℕ) (text : Text) (at : ℕ) (x : Seen) (next : ℕ) → got x next ≡ number least most text at
+pub in-range : (least most : ℕ) (text : Text) (at : ℕ) (x : Seen) (next : ℕ) → got x next ≡ numberIn least most text at
     → (least ≤ x .value) × (x .value ≤ most)
-unfolding number
+unfolding numberIn
 in-range least most text at x next e =
     let s = and-then _ _ _ _ e in
     let d = demanded _ _ _ _ _ _ _ (s .3) in

@@ -11,19 +11,8 @@ use lib.ListN.{length, getD}
 use borrow.Author.Tests.{not-false}
 use Rattle.tokens.specs.declared.tokens.Token.{Token}
 use Rattle.tokens.specs.Tokens.{white, dark, past, tokenAt}
+use Rattle.tokens.specs.Runs.{Passes, Run, Reached, begin, after}
 use Rattle.tokens.proofs.PastLaws.{past-end, past-stop, past-more, past-from, past-most, past-in}
-
--- every byte from a up to b passes a test
-pub record Passes (p : ℕ → Bool) (s : List ℕ) (a b : ℕ) : Type 0 where
-  pub each : (i : ℕ) → a ≤ i → i < b → p (getD s i 0) ≡ true
-
--- a run of dark bytes that no dark byte continues
-pub record Run (s : List ℕ) (t : Token) : Type 0 where
-  pub some : t .start < t .end
-  pub inside : t .end ≤ length s
-  pub filled : Passes dark s (t .start) (t .end)
-  pub begins : (t .start ≡ 0) ⊎ ((i : ℕ) → suc i ≡ t .start → white (getD s i 0) ≡ true)
-  pub ends : t .end < length s → white (getD s (t .end) 0) ≡ true
 
 -- what `past` passes, and where it stops
 passed : (p : ℕ → Bool) (s : List ℕ) (n i : ℕ) → length s ≤ i + n → Passes p s i (past p s i) × (past p s i < length s → p (getD s (past p s i) 0) ≡ false)
@@ -52,11 +41,6 @@ skipped p s i = passed p s (length s) i (omega arith) .0
 pub stopped : (p : ℕ → Bool) (s : List ℕ) (i : ℕ) → past p s i < length s → p (getD s (past p s i) 0) ≡ false
 stopped p s i = passed p s (length s) i (omega arith) .1
 
--- the positions that reading comes to: the start, and after each token its end
-pub data Reached (s : List ℕ) : ℕ → Type 0 where
-  begin : Reached s 0
-  after : (at : ℕ) → Reached s at → Reached s (tokenAt s at .end)
-
 light : (b : ℕ) → dark b ≡ false → white b ≡ true
 unfolding dark
 light b e = not-false (white b) e
@@ -79,7 +63,7 @@ token-run s at r h =
     let inside = past-in dark s start h in
     record {
       some = h;
-      inside = inside;
+      in-text = inside;
       filled = skipped dark s start;
       begins = elim (decLt at start) [
         | yes q ↦ inr (λ i e. skipped white s at .each i (omega arith) (omega arith))
@@ -95,11 +79,11 @@ same-end : (s : List ℕ) (t : Token) → Run s t → past dark s (t .start) ≡
 same-end s t run =
     let end = past dark s (t .start) in
     elim (decLt end (t .end)) [
-      | yes q ↦ absurd (clash (getD s end 0) (run .filled .each end (past-from dark s (t .start)) q) (light (getD s end 0) (stopped dark s (t .start) (omega (arith, run .inside)))))
+      | yes q ↦ absurd (clash (getD s end 0) (run .filled .each end (past-from dark s (t .start)) q) (light (getD s end 0) (stopped dark s (t .start) (omega (arith, run .in-text)))))
       | no q ↦ elim (decLt (t .end) end) [
         | yes w ↦
             absurd (clash (getD s (t .end) 0) (skipped dark s (t .start) .each (t .end) (omega (arith, run .some)) w)
-            (run .ends (omega (arith, past-most dark s (t .start) (omega (arith, run .inside, run .some))))))
+            (run .ends (omega (arith, past-most dark s (t .start) (omega (arith, run .in-text, run .some))))))
         | no w ↦ omega arith
       ]
     ]
@@ -117,7 +101,7 @@ earlier : (s : List ℕ) (t : Token) → Run s t → (at : ℕ) → past white s
 unfolding dark
 earlier s t run at l =
     let start = past white s at in
-    let q : start < length s = omega (arith, run .inside, run .some) in
+    let q : start < length s = omega (arith, run .in-text, run .some) in
     let d = past-more dark s start q (ap not (stopped white s at q)) in (
       omega (arith, d, past-from dark s (start + 1)),
       elim (decLt (t .start) (past dark s start)) [

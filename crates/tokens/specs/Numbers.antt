@@ -3,16 +3,14 @@ use Prim.Native.Nat.{ℕ, _+_, _-_, _*_}
 use mathlib.Core.List.{List, [], _∷_}
 use mathlib.Core.Bool.{cond}
 use lib.ListN.{length}
-use Rattle.costs.specs.declared.answers.Answer.the-variants.{BadToken, OutOfRange}
-use Rattle.costs.specs.Judging.{between}
+use Rattle.answers.specs.declared.Answer.the-variants.{BadToken, OutOfRange}
+use Rattle.costs.specs.Tests.{between}
 use Rattle.tokens.specs.TextLimits.{digitsMost}
 use Rattle.tokens.specs.Tokens.{Next}
 use Rattle.tokens.specs.Steps.{Got, got, refused, Reads, _>>=_, _>>_, pure, demand}
 use Rattle.tokens.specs.declared.numbers.Digits.{Digits}
 use Rattle.tokens.specs.declared.numbers.Digits.the-variants.{Value, Not}
 use Rattle.tokens.specs.declared.numbers.Seen.{Seen}
-use Rattle.tokens.specs.declared.numbers.Num.{Num}
-use Rattle.tokens.specs.declared.numbers.Num.the-variants.{Is, No}
 
 -- the value of decimal digits after a value v, or `Not` where a byte is no digit
 unfoldable pub digits : ℕ → List ℕ → Digits
@@ -29,17 +27,12 @@ taken t Not = refused (BadToken (t .start))
 taken t (Value v) = got (record { value = v; place = t .start; next = t .end }) (t .end)
 
 -- any number: its value and its place
-unfoldable pub numeral : Reads Seen
-numeral text at = taken (text at) (valueOf (text at .bytes))
+unfoldable pub anyNumber : Reads Seen
+anyNumber text at = taken (text at) (valueOf (text at .bytes))
 
 -- a number of least to most: 2, then 3
-unfoldable pub number : ℕ → ℕ → Reads Seen
-number least most = do
-  x ← numeral
+unfoldable pub numberIn : ℕ → ℕ → Reads Seen
+numberIn least most = do
+  x ← anyNumber
   demand (between least most (x .value)) (OutOfRange (x .place))
   pure x
-
--- what the code's answer says
-abbrev pub numIs : Num → Got Seen
-numIs (Is x) = got x (x .next)
-numIs (No answer) = refused answer

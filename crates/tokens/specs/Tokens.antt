@@ -26,8 +26,8 @@ past p s at = at + lead p (drop at s)
 unfoldable pub tokenAt : List ℕ → ℕ → Token
 tokenAt s at = record { start = past white s at; end = past dark s (past white s at) }
 
-unfoldable pub bytesOf : List ℕ → Token → List ℕ
-bytesOf s t = take (t .end - t .start) (drop (t .start) s)
+unfoldable pub tokenBytes : List ℕ → Token → List ℕ
+tokenBytes s t = take (t .end - t .start) (drop (t .start) s)
 
 -- a token and its bytes
 pub record Next : Type 0 where
@@ -40,4 +40,4 @@ abbrev pub Text : Type 0
 Text = ℕ → Next
 
 unfoldable pub textOf : List ℕ → Text
-textOf s at = record { start = tokenAt s at .start; end = tokenAt s at .end; bytes = bytesOf s (tokenAt s at) }
+textOf s at = record { start = tokenAt s at .start; end = tokenAt s at .end; bytes = tokenBytes s (tokenAt s at) }

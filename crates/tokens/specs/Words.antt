@@ -4,15 +4,10 @@ use mathlib.Core.List.{List, [], _∷_}
 use mathlib.Core.Bool.{Bool, true, false, cond, _&&_}
 use lib.ListN.{length}
 use lib.Dec.{ltb, eqb}
-use Rattle.costs.specs.declared.answers.Answer.the-variants.{BadToken, TextAfter}
-use Rattle.costs.specs.Judging.{between}
+use Rattle.answers.specs.declared.Answer.the-variants.{BadToken, TextAfter}
+use Rattle.costs.specs.Tests.{between}
 use Rattle.tokens.specs.TextLimits.{nameMost}
 use Rattle.tokens.specs.Steps.{Got, got, refused, Reads}
-use Rattle.tokens.specs.declared.words.Pos.{Pos}
-use Rattle.tokens.specs.declared.words.Pos.the-variants.{At, Refused}
-use Rattle.tokens.specs.declared.words.Follows.{Follows}
-use Rattle.tokens.specs.declared.words.Word.{Word}
-use Rattle.tokens.specs.declared.words.Word.the-variants.{Is, No}
 
 -- "name (1 to 64 bytes)": 2 where it is missing or longer
 unfoldable pub name : Reads (Unit {0})
@@ -31,11 +26,11 @@ placeAmong [] w = 0
 placeAmong (v ∷ vs) w = cond (same w v) 0 (suc (placeAmong vs w))
 
 -- the next token, as the word that it is among so many: 2 where it is none
-abbrev pub wordAt : ℕ → ℕ → ℕ → ℕ → Got ℕ
-wordAt many i start end = cond (ltb i many) (got i end) (refused (BadToken start))
+abbrev pub wordAmong : ℕ → ℕ → ℕ → ℕ → Got ℕ
+wordAmong many i start end = cond (ltb i many) (got i end) (refused (BadToken start))
 
 unfoldable pub word : List (List ℕ) → Reads ℕ
-word ws text at = wordAt (length ws) (placeAmong ws (text at .bytes)) (text at .start) (text at .end)
+word ws text at = wordAmong (length ws) (placeAmong ws (text at .bytes)) (text at .start) (text at .end)
 
 -- whether the next token is this word, which is then passed; any other token stays
 unfoldable pub follows : List ℕ → Reads Bool
@@ -44,15 +39,3 @@ follows w text at = cond (same (text at .bytes) w) (got true (text at .end)) (go
 -- "text after the last function": 6
 unfoldable pub finish : Reads (Unit {0})
 finish text at = cond (ltb 0 (length (text at .bytes))) (refused (TextAfter (text at .start))) (got tt at)
-
--- what the code's answers say
-abbrev pub posIs : {A : Type 0} → Pos → A → Got A
-posIs (At next) a = got a next
-posIs (Refused answer) a = refused answer
-
-abbrev pub wordIs : Word → Got ℕ
-wordIs (Is found) = got (found .index) (found .next)
-wordIs (No answer) = refused answer
-
-abbrev pub followsIs : Follows → Got Bool
-followsIs r = got (r .found) (r .next)

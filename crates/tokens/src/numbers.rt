@@ -1,11 +1,12 @@
 // Numbers of a text.
 ghost use mathlib.Core.Path.{_≡_};
 ghost use Rattle.tokens.specs.Tokens.{textOf};
-ghost use Rattle.tokens.specs.Numbers.{valueOf, numeral, number, numIs};
+ghost use Rattle.tokens.specs.Numbers.{valueOf, anyNumber, numberIn};
+ghost use Rattle.tokens.specs.ties.Outcomes.{numIs};
 use crate::limits::DIGITS;
 use crate::tokens::bytes_of;
 use crate::tokens::next_token;
-use costs::answers::Answer;
+use answers::Answer;
 
 // What a run of bytes is as a number.
 pub enum Digits {
@@ -53,7 +54,7 @@ fn decimal(w: &[u8]) -> Digits
 
 // The number at a position.
 pub fn any_number(text: &[u8], at: usize) -> Num
-    ensures { λ r. ⌜ numIs r ≡ numeral (textOf (now (text .entry))) at ⌝ }
+    ensures { λ r. ⌜ numIs r ≡ anyNumber (textOf (now (text .entry))) at ⌝ }
 {
     let token = next_token(text, at);
     match decimal(bytes_of(text, token)) {
@@ -68,7 +69,7 @@ pub fn any_number(text: &[u8], at: usize) -> Num
 
 // The number at a position, from least to most.
 pub fn number_in(text: &[u8], at: usize, least: u64, most: u64) -> Num
-    ensures { λ r. ⌜ numIs r ≡ number least most (textOf (now (text .entry))) at ⌝ }
+    ensures { λ r. ⌜ numIs r ≡ numberIn least most (textOf (now (text .entry))) at ⌝ }
 {
     let x = match any_number(text, at) {
         Num::Is(x) => x,

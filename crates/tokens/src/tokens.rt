@@ -2,7 +2,7 @@
 ghost use mathlib.Core.Path.{_≡_};
 ghost use Prim.Native.Nat.{_≤_, _<_};
 ghost use lib.ListN.{length};
-ghost use Rattle.tokens.specs.Tokens.{white, dark, past, tokenAt, bytesOf};
+ghost use Rattle.tokens.specs.Tokens.{white, dark, past, tokenAt, tokenBytes};
 
 // From start up to end. No token is left where the two are equal.
 pub struct Token {
@@ -65,7 +65,7 @@ pub fn next_token(text: &[u8], at: usize) -> Token
 // A token's bytes; none where no token is left.
 pub fn bytes_of(text: &[u8], token: Token) -> &[u8]
     requires { ⌜ (token .start < token .end → token .end ≤ length (now text)) ⌝ }
-    ensures { λ r. ⌜ now r ≡ bytesOf (now (text .entry)) token ⌝ }
+    ensures { λ r. ⌜ now r ≡ tokenBytes (now (text .entry)) token ⌝ }
 {
     let start = token.start;
     let end = token.end;

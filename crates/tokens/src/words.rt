@@ -1,12 +1,13 @@
 // Names and words of a text.
 ghost use mathlib.Core.Path.{_≡_};
 ghost use Rattle.tokens.specs.Tokens.{textOf};
-ghost use Rattle.tokens.specs.Words.{name, same, wordAt, follows, finish, posIs, wordIs, followsIs};
+ghost use Rattle.tokens.specs.Words.{name, same, wordAmong, follows, finish};
+ghost use Rattle.tokens.specs.ties.Outcomes.{posIs, wordIs, followsIs};
 use crate::limits::NAME;
 use crate::tokens::Token;
 use crate::tokens::bytes_of;
 use crate::tokens::next_token;
-use costs::answers::Answer;
+use answers::Answer;
 
 // A position to read on from.
 pub enum Pos {
@@ -64,7 +65,7 @@ pub fn same_bytes(a: &[u8], b: &[u8]) -> bool
 
 // The token as the i-th of so many words.
 pub fn word_found(i: u64, many: u64, token: Token) -> Word
-    ensures { λ r. ⌜ wordIs r ≡ wordAt many i (token .start) (token .end) ⌝ }
+    ensures { λ r. ⌜ wordIs r ≡ wordAmong many i (token .start) (token .end) ⌝ }
 {
     if many <= i {
         return Word::No(Answer::BadToken(token.start));

@@ -1,6 +1,6 @@
-use Rattle.function_costs.proofs.SoftLaws.{soft-fair}
+use Rattle.soft_sums.proofs.SoftLaws.{soft-fair}
 use Rattle.function_costs.specs.FunctionCosts.{marked}
-use Rattle.function_costs.specs.Soft.{softIs}
+use Rattle.soft_sums.specs.ties.Outcomes.{softIs}
 use Rattle.tokens.specs.Steps.{andThen}
 use mathlib.Core.Path.{sym, _∙_, ap}
 use borrow.Author.Needs.{needs}

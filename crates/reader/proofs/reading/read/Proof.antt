@@ -1,7 +1,7 @@
 use Rattle.reader.proofs.ReadingLaws.{network-stop, network-more}
-use Rattle.reader.proofs.HeaderLaws.{header-range}
+use Rattle.headings.proofs.HeaderLaws.{header-range}
 use Rattle.reader.specs.Reading.{reading}
-use Rattle.reader.specs.Headers.{headerIs}
+use Rattle.headings.specs.ties.Outcomes.{headerIs}
 use borrow.Author.Tests.{le-leb, lt-leb}
 use mathlib.Core.Path.{sym, _∙_, ap}
 use borrow.Author.Needs.{needs}
@@ -25,9 +25,7 @@ enum-known-head : tie.Need-enum-known-head
 enum-known-head c = search needs
 
 read-body-requires : tie.Need-read-body-requires
-read-body-requires c κs =
-    let h = header-range _ _ _ _ (ap headerIs (sym (c .before .before .head .given .1)) ∙ c .before .before .before .before .read-header .ensures) in
-    record { vars-few = h .vars-few; functions-few = h .functions-few }
+read-body-requires c κs = header-range _ _ _ _ (ap headerIs (sym (c .before .before .head .given .1)) ∙ c .before .before .before .before .read-header .ensures)
 
 enum-known-answer : tie.Need-enum-known-answer
 enum-known-answer c = search needs

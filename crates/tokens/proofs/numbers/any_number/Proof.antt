@@ -1,5 +1,5 @@
 use Rattle.tokens.proofs.TokenLaws.{within, seen}
-use Rattle.tokens.specs.Numbers.{numeral}
+use Rattle.tokens.specs.Numbers.{anyNumber}
 use borrow.Author.Needs.{needs}
 use Rattle.tokens.proofs.numbers.any_number.Statement.{statement}
 use Rattle.tokens.proofs.numbers.any_number.Tie as tie
@@ -20,13 +20,13 @@ enum-known-v : tie.Need-enum-known-v
 enum-known-v c = search needs
 
 returns : tie.Need-returns
-unfolding numeral
+unfolding anyNumber
 returns c =
     let d = c .before .before in
     rw (seen _ _ _ _ (d .before .before .next-token .ensures) (d .before .bytes-of .ensures), ← d .decimal .ensures, c .enum-told .given .1)
 
 returns-2 : tie.Need-returns-2
-unfolding numeral
+unfolding anyNumber
 returns-2 c =
     let d = c .before .before .before in
     rw (seen _ _ _ _ (d .before .before .next-token .ensures) (d .before .bytes-of .ensures), ← d .decimal .ensures, c .before .v .given .1)

@@ -1,5 +1,5 @@
 use Rattle.tokens.specs.Steps.{andThen, demand}
-use Rattle.tokens.specs.Numbers.{number}
+use Rattle.tokens.specs.Numbers.{numberIn}
 use mathlib.Core.Bool.{and-false}
 use borrow.Author.Tests.{le-leb, lt-leb}
 use borrow.Author.Needs.{needs}
@@ -16,19 +16,19 @@ enum-known-answer : tie.Need-enum-known-answer
 enum-known-answer c = search needs
 
 returns : tie.Need-returns
-unfolding number andThen demand
+unfolding numberIn andThen demand
 returns c = rw (← c .before .before .before .any-number .ensures, c .before .answer .given .1)
 
 returns-2 : tie.Need-returns-2
-unfolding number andThen demand
+unfolding numberIn andThen demand
 returns-2 c = rw (← c .before .before .before .before .before .any-number .ensures, c .before .before .before .x .given .1, lt-leb _ _ (c .if1 .taken))
 
 returns-3 : tie.Need-returns-3
-unfolding number andThen demand
+unfolding numberIn andThen demand
 returns-3 c = rw (← c .before .before .before .before .before .before .before .any-number .ensures, c .before .before .before .before .before .x .given .1, lt-leb _ _ (c .if2 .taken), and-false)
 
 returns-4 : tie.Need-returns-4
-unfolding number andThen demand
+unfolding numberIn andThen demand
 returns-4 c = rw (← c .before .before .before .before .before .before .before .any-number .ensures, c .before .before .before .before .before .x .given .1, le-leb _ _ (c .before .before .if1 .left), le-leb _ _ (c .if2 .left))
 
 pub number-in-spec : {M : Type 1} → statement M

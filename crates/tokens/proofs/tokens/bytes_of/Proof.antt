@@ -1,5 +1,5 @@
 use Rattle.tokens.proofs.TokenLaws.{no-bytes}
-use Rattle.tokens.specs.Tokens.{bytesOf}
+use Rattle.tokens.specs.Tokens.{tokenBytes}
 use mathlib.Core.Path.{sym}
 use borrow.Author.Needs.{needs}
 use Rattle.tokens.proofs.tokens.bytes_of.Statement.{statement}
@@ -27,7 +27,7 @@ part-result-end-2 : tie.Need-part-result-end-2
 part-result-end-2 c = c .before .pre (c .if1 .left)
 
 returns-2 : tie.Need-returns-2
-unfolding bytesOf
+unfolding tokenBytes
 returns-2 c = search needs
 
 pub bytes-of-spec : {M : Type 1} → statement M

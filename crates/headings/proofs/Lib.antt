@@ -1,0 +1,2 @@
+pub mod HeaderLaws
+pub mod DomainLaws

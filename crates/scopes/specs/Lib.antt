@@ -1,0 +1,2 @@
+pub mod Scopes
+pub mod ties

@@ -1,0 +1,3 @@
+pub mod SoftLimits
+pub mod Soft
+pub mod ties
