@@ -1,5 +1,5 @@
 #!/usr/bin/env bash
-# What the programs say to examples, bad arguments, files that cannot be read and slow pipes. The exit status is 1 if one says
+# What the programs say to examples, bad arguments, files that cannot be read, slow pipes and results that are lost. The exit status is 1 if one says
 # something else than is written here. `rt check fringepond write_record check_record` makes the programs.
 set -u
 root=$(cd "$(dirname "$0")/../.." && pwd)
@@ -57,6 +57,14 @@ expect 'an endless record' 'a record of more than 4194304 bytes is not checked h
 expect "another network's record" 'refused 13 at 1' "$("$bin/check_record" "$root/examples/none.wcsp" "$dir/b.record" 2>&1)"
 head -c 271 "$dir/b.record" > "$dir/short.record"
 expect 'a record cut short' 'refused 13 at 0' "$("$bin/check_record" "$dir/b.wcsp" "$dir/short.record" 2>&1)"
+
+# a result that cannot be written is told on standard error
+lost='standard output: No space left on device'
+expect 'a verdict that is lost' "$lost" "$("$bin/fringepond" 2>&1 > /dev/full < "$dir/b.wcsp")"
+expect 'a refusal that is lost' "$lost" "$("$bin/fringepond" 2>&1 > /dev/full < /dev/null)"
+expect 'a record that is lost' "$lost" "$("$bin/write_record" 2>&1 > /dev/full < "$dir/b.wcsp")"
+expect 'an acceptance that is lost' "$lost" "$("$bin/check_record" "$dir/b.wcsp" "$dir/b.record" 2>&1 > /dev/full)"
+expect "a desk's refusal that is lost" "$lost" "$("$bin/check_record" "$dir/b.wcsp" /dev/null 2>&1 > /dev/full)"
 
 echo "$tried tried, $failed different"
 [ "$failed" = 0 ]

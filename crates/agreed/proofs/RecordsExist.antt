@@ -8,36 +8,41 @@ use mathlib.Core.Option.{Option, none, some}
 use native.Mathlib.Omega.{arith}
 use native.Mathlib.Nat.{mul-le-mul}
 use lib.Dec.{leb, ltb}
+use Rattle.answers.specs.declared.Answer.the-variants.{Done}
 use Rattle.costs.specs.Range.{firstTo}
-use Rattle.costs.specs.Limits.{varsMost, sizeMost, functionsMost, costMost}
+use Rattle.costs.specs.Limits.{varsMost, sizeMost, functionsMost, costMost, arityMost}
 use lib.ListN.{length, length-append, length-map}
 use Rattle.costs.specs.Net.{Net, Costs, Sound, All, plans}
 use Rattle.costs.proofs.NetLaws.{All-append, All-by}
 use Rattle.shifts.specs.declared.moves.Move.{Move}
 use Rattle.shifts.specs.declared.moves.Move.the-variants.{Project, Extend, Raise}
 use Rattle.shifts.specs.Moves.{Joins, Legal}
-use Rattle.shifts.specs.Passing.{pass}
+use Rattle.passes.specs.Passing.{pass, Within}
 use Rattle.records.specs.Trees.{TreeNode, root}
-use Rattle.search.specs.FirstSearch.{claimOf, free, firstLook, firstEngine}
+use Rattle.visiting.specs.FirstSearch.{free, firstLook, firstEngine}
 use Rattle.records.specs.declared.steps.Step.{Step}
 use Rattle.records.specs.declared.steps.Step.the-variants.{Branch, Shift, Close}
-use Rattle.records.specs.Rules.{Claim, May, nodesAfter, costsAfter, Spells, Keeps}
-use Rattle.search.specs.Engines.{Engine, never, begin, searched}
-use Rattle.search.specs.Cheapest.{RightAnswer, Cheapest, NoneBelow}
-use Rattle.search.proofs.BudgetLaws.{visit-never}
-use Rattle.search.proofs.TidyNodes.{Tidy, tidy-root}
-use Rattle.search.proofs.FirstSearchRight.{look-choose, first-right, first-answer, first-keeps}
-use Rattle.search.proofs.SearchSize.{LookShort, visit-count, visit-short}
-use Rattle.shifts.proofs.PassLength.{Within, pass-length}
+use Rattle.records.specs.Rules.{Claim, claimOf, May, nodesAfter, costsAfter, Spells, Keeps}
+use Rattle.engines.specs.Engines.{Engine, never, begin, searched}
+use Rattle.costs.specs.Cheapest.{RightAnswer, Cheapest, NoneBelow}
+use Rattle.engines.proofs.BudgetLaws.{visit-never}
+use Rattle.engines.specs.Nodes.{Tidy}
+use Rattle.engines.proofs.TidyNodes.{tidy-root}
+use Rattle.engines.proofs.RightEngines.{look-choose}
+use Rattle.visiting.proofs.FirstSearchRight.{first-right, first-answer, first-keeps}
+use Rattle.engines.specs.Rightness.{LookShort}
+use Rattle.engines.proofs.SearchSize.{visit-count, visit-short}
+use Rattle.passes.proofs.PassLength.{pass-length}
 use Rattle.records.specs.Steps.{wordsOf, spell}
 use Rattle.records.specs.Records.{recordWords}
+use Rattle.agreed.specs.Recorded.{Recorded}
 
-module _ (N S F A W : ℕ) (r : Claim) (lim : Within N S F A (r .net)) (n-fits : N ≤ W) (s-fits : S ≤ W) (f-fits : F ≤ W) (k-fits : r .net .cap < W) (some : 7 < W) where
+module _ (N S F A W : ℕ) (r : Claim) (lim : Within N S F A (r .net)) (n-fits : N ≤ W) (s-fits : S ≤ W) (f-fits : F ≤ W) (k-fits : r .net .top < W) (some : 7 < W) where
   five : (a b c d e : ℕ) → a < W → b < W → c < W → d < W → e < W → All (λ w. w < W) (a ∷ b ∷ c ∷ d ∷ e ∷ [])
   five a b c d e v w x y z = (v, (w, (x, (y, (z, tt)))))
 
   -- every word of a step that the rules allow fits
-  among-small : (d : TreeNode) (k f i a m : ℕ) → k ≤ 7 → Joins (r .net) (d .live) f i a → m ≤ r .net .cap → All (λ w. w < W) (k ∷ f ∷ i ∷ a ∷ m ∷ [])
+  among-small : (d : TreeNode) (k f i a m : ℕ) → k ≤ 7 → Joins (r .net) (d .live) f i a → m ≤ r .net .top → All (λ w. w < W) (k ∷ f ∷ i ∷ a ∷ m ∷ [])
   among-small d k f i a m l h h′ = five k f i a m (omega arith) (omega (arith, h .function, lim .functions)) (omega (arith, h .variable, lim .vars)) (omega (arith, h .value, lim .sizes i (h .variable))) (omega arith)
 
   shift-small : (d : TreeNode) (c : Costs) (x : Move) → Legal (r .net) (d .live) c x → All (λ w. w < W) (wordsOf (Shift x))
@@ -59,31 +64,22 @@ module _ (N S F A W : ℕ) (r : Claim) (lim : Within N S F A (r .net)) (n-fits :
 -- the first search writes at most a pass and a close at a node
 first-short : (N S F A : ℕ) (n : Net) → Sound n → Within N S F A n → (held : Costs) (d : TreeNode) (b : ℕ) → LookShort (F * (A * S) + N + 1) (firstLook n held d b)
 unfolding firstLook
-first-short N S F A n good lim held d b = look-choose (LookShort (F * (A * S) + N + 1)) (leb b (pass n (d .live) held .costs .base)) _ _ (λ t. closing)
+first-short N S F A n good lim held d b = look-choose (LookShort (F * (A * S) + N + 1)) (leb b (pass n (d .live) held .costs .constant)) _ _ (λ t. closing)
     (λ t. look-choose (LookShort (F * (A * S) + N + 1)) (ltb (firstTo (n .vars) (free d)) (n .vars)) _ _ (λ a. omega arith) (λ a. closing))
   where
     closing : length (map Shift (pass n (d .live) held .shifts) ++ (Close ∷ [])) ≤ F * (A * S) + N + 1
     closing = omega (arith, length-append (map Shift (pass n (d .live) held .shifts)) (Close ∷ []), length-map (pass n (d .live) held .shifts) Shift, pass-length N S F A n good lim (d .live) held)
 
--- a record of the cheapest plan, or of none, that keeps the rules and whose words are below W
-pub record Recorded (n : Net) (held : Costs) (W : ℕ) : Type 0 where
-  pub plan : List ℕ
-  pub cost : ℕ
-  pub steps : List Step
-  pub answer : RightAnswer n held plan cost
-  pub keeps : Keeps (claimOf n held cost) steps
-  pub small : All (λ w. w < W) (recordWords n cost plan steps)
-
 -- every word of such a record fits, if the count of its steps does
-module _ (N S F A W : ℕ) (n : Net) (held : Costs) (lim : Within N S F A n) (n-fits : N ≤ W) (s-fits : S ≤ W) (f-fits : F ≤ W) (k-fits : n .cap < W)
+module _ (N S F A W : ℕ) (n : Net) (held : Costs) (lim : Within N S F A n) (n-fits : N ≤ W) (s-fits : S ≤ W) (f-fits : F ≤ W) (k-fits : n .top < W)
     (plan : List ℕ) (cost : ℕ) (steps : List Step) (answer : RightAnswer n held plan cost) (keeps : Keeps (claimOf n held cost) steps) (room : 8 + N < W) (many : length steps < W) where
-  values : (All (λ w. w < W) plan) × (length plan ≤ N) × (cost ≤ n .cap)
+  values : (All (λ w. w < W) plan) × (length plan ≤ N) × (cost ≤ n .top)
   values = ⊎-elim
-      (λ (h : NoneBelow n held plan cost). (rw (h .plan) tt, rw (h .plan) (omega arith), omega (arith, h .best)))
+      (λ (h : NoneBelow n held plan cost). (rw (h .plan) tt, rw (h .plan) (omega arith), omega (arith, h .best-is)))
       (λ (h : Cheapest n held plan cost). (
-        All-by (λ w. w < W) plan (λ j l. omega (arith, h .whole, h .plan .range j (omega (arith, h .whole)), lim .sizes j (omega (arith, h .whole)))),
+        All-by (λ w. w < W) plan (λ j l. omega (arith, h .whole, h .cheapest .plan .range j (omega (arith, h .whole)), lim .sizes j (omega (arith, h .whole)))),
         omega (arith, h .whole, lim .vars),
-        omega (arith, h .below),
+        omega (arith, h .cheapest .below),
       ))
       answer
 
@@ -97,7 +93,7 @@ module _ (N S F A W : ℕ) (n : Net) (held : Costs) (lim : Within N S F A n) (n-
     (
       omega (arith, lim .vars),
       (
-        verdict (ltb cost (n .cap)),
+        verdict (ltb cost (n .top)),
         (
           omega (arith, values .2),
           (
@@ -119,13 +115,13 @@ module _ (N S F A W : ℕ) (n : Net) (held : Costs) (lim : Within N S F A n) (n-
   )
 
 -- "each network of at most 2^32 plans has a record", over the limits
-module _ (N S F A P W : ℕ) (n : Net) (good : Sound n) (held : Costs) (ok : held .base ≤ n .cap) (pos : 0 < n .cap) (lim : Within N S F A n) (few : plans n ≤ P)
-    (room : 8 + N + 5 * ((F * (A * S) + N + 1) * ((N + 1) * P)) < W) (n-fits : N ≤ W) (s-fits : S ≤ W) (f-fits : F ≤ W) (k-fits : n .cap < W) where
+module _ (N S F A P W : ℕ) (n : Net) (good : Sound n) (held : Costs) (ok : held .constant ≤ n .top) (pos : 0 < n .top) (lim : Within N S F A n) (few : plans n ≤ P)
+    (room : 8 + N + 5 * ((F * (A * S) + N + 1) * ((N + 1) * P)) < W) (n-fits : N ≤ W) (s-fits : S ≤ W) (f-fits : F ≤ W) (k-fits : n .top < W) where
   abbrev E : Engine
   E = firstEngine n held
 
-  ends : searched E never .ended ≡ 0
-  ends = visit-never E (suc (n .vars)) (root n) (begin (n .cap)) refl
+  ends : searched E never .ended ≡ Done
+  ends = visit-never E (suc (n .vars)) (root n) (begin (n .top)) refl
 
   answer : RightAnswer n held (searched E never .plan) (searched E never .best)
   answer = first-answer n good held ok pos never ends
@@ -136,14 +132,14 @@ module _ (N S F A P W : ℕ) (n : Net) (good : Sound n) (held : Costs) (ok : hel
   nodes : searched E never .count ≤ (N + 1) * P
   nodes = omega (
     arith,
-    visit-count E held (Tidy n) (first-right n good held ok pos) good never (suc (n .vars)) (root n) (begin (n .cap)) (tidy-root n good),
+    visit-count E held (Tidy n) (first-right n good held ok pos) good never (suc (n .vars)) (root n) (begin (n .top)) (tidy-root n good),
     mul-le-mul {n₁ = suc (n .vars)} {m₁ = plans n} {n₂ = N + 1} {m₂ = P} (omega (arith, lim .vars)) few,
   )
 
   long : length (searched E never .steps) ≤ (F * (A * S) + N + 1) * ((N + 1) * P)
   long = omega (
     arith,
-    visit-short E held (Tidy n) (first-right n good held ok pos) good never (F * (A * S) + N + 1) (λ d b i. first-short N S F A n good lim held d b) (suc (n .vars)) (root n) (begin (n .cap)) (tidy-root n good) (omega arith),
+    visit-short E held (Tidy n) (first-right n good held ok pos) good never (F * (A * S) + N + 1) (λ d b i. first-short N S F A n good lim held d b) (suc (n .vars)) (root n) (begin (n .top)) (tidy-root n good) (omega arith),
     mul-le-mul {n₁ = F * (A * S) + N + 1} {m₁ = searched E never .count} {n₂ = F * (A * S) + N + 1} {m₂ = (N + 1) * P} (omega arith) nodes,
   )
 
@@ -158,5 +154,5 @@ module _ (N S F A P W : ℕ) (n : Net) (good : Sound n) (held : Costs) (ok : hel
   }
 
 -- with the numbers of document 01
-pub recorded-01 : (n : Net) → Sound n → (held : Costs) → held .base ≤ n .cap → 0 < n .cap → n .cap ≤ costMost → Within varsMost sizeMost functionsMost 3 n → plans n ≤ 2 ^ 32 → Recorded n held (2 ^ 64)
-recorded-01 n good held ok pos k lim few = recorded varsMost sizeMost functionsMost 3 (2 ^ 32) (2 ^ 64) n good held ok pos lim few (omega arith) (omega arith) (omega arith) (omega arith) (omega arith)
+pub recorded-01 : (n : Net) → Sound n → (held : Costs) → held .constant ≤ n .top → 0 < n .top → n .top ≤ costMost → Within varsMost sizeMost functionsMost arityMost n → plans n ≤ 2 ^ 32 → Recorded n held (2 ^ 64)
+recorded-01 n good held ok pos k lim few = recorded varsMost sizeMost functionsMost arityMost (2 ^ 32) (2 ^ 64) n good held ok pos lim few (omega arith) (omega arith) (omega arith) (omega arith) (omega arith)

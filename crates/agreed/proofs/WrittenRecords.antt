@@ -16,16 +16,12 @@ use Rattle.shifts.specs.declared.moves.Move.the-variants.{Project, Extend, Rais
 use Rattle.records.specs.declared.steps.Step.{Step}
 use Rattle.records.specs.declared.steps.Step.the-variants.{Branch, Shift, Close}
 use Rattle.records.specs.declared.steps.Spelt.the-variants.{One}
-use Rattle.records.specs.Rules.{Keeps}
+use Rattle.records.specs.Rules.{claimOf, Keeps}
 use Rattle.records.specs.Steps.{wordsOf, stepWords, spell, stepOf, stepAt}
-use Rattle.records.specs.Records.{headerWords, recordWords, Reads, StepsKept, Shape, told, claims, SaysCheapest, SaysNone, KeepsRules}
+use Rattle.records.specs.Records.{headerWords, headerOf, verdictOf, recordWords, Reads, StepsKept, Shape, told, claims, SaysCheapest, SaysNone, KeepsRules}
 use Rattle.records.proofs.StepLaws.{words-many, spell-many}
-use Rattle.search.specs.FirstSearch.{claimOf}
-use Rattle.search.specs.Cheapest.{valueIn, RightAnswer}
-
--- a list as its words
-abbrev pub tells : List ℕ → ℕ → ℕ
-tells xs j = getD xs j 0
+use Rattle.costs.specs.Cheapest.{valueIn, RightAnswer}
+use Rattle.agreed.specs.Recorded.{tells}
 
 -- a step is read where it stands
 read-five : (pre ys : List ℕ) → stepAt (tells (pre ++ ys)) (length pre) ≡ stepOf (getD ys 0 0) (getD ys 1 0) (getD ys 2 0) (getD ys 3 0) (getD ys 4 0)
@@ -53,7 +49,7 @@ module _ (n : Net) (good : Sound n) (held : Costs) (q : List ℕ) (c : ℕ) (ss 
   written = recordWords n c q ss
 
   abbrev before : List ℕ
-  before = 1 ∷ n .vars ∷ cond (ltb c (n .cap)) 0 1 ∷ c ∷ headerWords ∷ length q ∷ (headerWords + length q) ∷ length ss ∷ []
+  before = headerOf (n .vars) (verdictOf (n .top) c) c (length q) (length ss)
 
   steps-kept : (k : ℕ) → length q ≡ k → StepsKept (claims n held (tells written)) (tells written) (length ss) (headerWords + k)
   steps-kept k e = record { steps = ss; reads = rw place at (reads-spell (before ++ q) ss); keeps = keeps }
@@ -68,17 +64,17 @@ module _ (n : Net) (good : Sound n) (held : Costs) (q : List ℕ) (c : ℕ) (ss 
   told-at v l = getD-append-add before (q ++ spell ss) v 0 ∙ List·getD-append q (spell ss) 0 v l
 
   pub written-keeps : RightAnswer n held q c → KeepsRules n held (tells written) (length written)
-  written-keeps a = record { edition = refl; vars = refl; says = go a }
+  written-keeps a = record { edition = refl; vars = refl; claim = go a }
     where
       go : RightAnswer n held q c → SaysCheapest n held (tells written) (length written) ⊎ SaysNone n held (tells written) (length written)
       go (inl h) =
           let e : length q ≡ 0 = rw (h .plan) in
-          inr (record { verdict = rw (is-false (ltb c (n .cap)) (λ t. omega (arith, ltb→lt c (n .cap) t, h .best))); cost = h .best; shape = shape 0 e; steps = steps-kept 0 e })
+          inr (record { verdict = rw (is-false (ltb c (n .top)) (λ t. omega (arith, ltb→lt c (n .top) t, h .best-is))); cost = h .best-is; shape = shape 0 e; steps = steps-kept 0 e })
       go (inr h) = inl (record {
-        verdict = rw (is-true (ltb c (n .cap)) (lt→ltb c (n .cap) (h .below)));
-        cost = h .below;
+        verdict = rw (is-true (ltb c (n .top)) (lt→ltb c (n .top) (h .cheapest .below)));
+        cost = h .cheapest .below;
         shape = shape (n .vars) (h .whole);
-        plan = record { range = λ v l. rw (told-at v (omega (arith, h .whole))) (h .plan .range v l) };
-        priced = price-same n good held (told (tells written)) (valueIn q) (λ v l. told-at v (omega (arith, h .whole))) ∙ h .priced;
+        plan = record { range = λ v l. rw (told-at v (omega (arith, h .whole))) (h .cheapest .plan .range v l) };
+        priced = price-same n good held (told (tells written)) (valueIn q) (λ v l. told-at v (omega (arith, h .whole))) ∙ h .cheapest .priced;
         steps = steps-kept (n .vars) (h .whole);
       })

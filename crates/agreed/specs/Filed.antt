@@ -1,13 +1,15 @@
--- A record in the buffer that was lent for it.
+-- Records that the desk accepts: in the buffer that was lent for one, and as bytes.
 use Prim.Native.Nat.{ℕ, _+_, _*_, _≤_}
 use mathlib.Core.Path.{_≡_}
 use mathlib.Core.List.{List, _++_}
 use lib.ListN.{length}
 use Rattle.costs.specs.declared.networks.Network.{Network}
-use Rattle.costs.specs.declared.answers.Answer.the-variants.{Done}
+use Rattle.answers.specs.declared.Answer.the-variants.{Done}
+use Rattle.costs.specs.Net.{costsOf}
+use Rattle.costs.specs.Networks.{stands}
 use Rattle.records.specs.Words.{wordBytes, wordAt}
 use Rattle.records.specs.Steps.{stepWords}
-use Rattle.records.specs.Records.{headerWords}
+use Rattle.records.specs.Records.{headerWords, KeptBy}
 use Rattle.desk.specs.Checking.{checked}
 
 -- the bytes of a record by its header: "offset of the steps, 8 + count; number of steps. Offsets count words."
@@ -21,4 +23,10 @@ pub record Filed (net : Network) (held : List ℕ) (room : ℕ) (out : List ℕ)
   pub there : out ≡ bytes ++ behind
   pub header : headerWords * wordBytes ≤ length bytes
   pub size : sizeTold out ≡ length bytes
+  pub accepted : checked net held room bytes ≡ Done
+
+-- bytes that keep the rules, and that the desk accepts
+pub record AcceptedRecord (net : Network) (held : List ℕ) (room : ℕ) : Type 0 where
+  pub bytes : List ℕ
+  pub kept : KeptBy (stands net) (costsOf (net .constant) held) bytes
   pub accepted : checked net held room bytes ≡ Done

@@ -3,17 +3,20 @@ ghost use mathlib.Core.Path.{_≡_};
 ghost use Prim.Native.Nat.{ℕ, _+_, _*_, _≤_};
 ghost use mathlib.Core.Bool.{true};
 ghost use lib.ListN.{length, getD};
-ghost use Rattle.costs.specs.declared.answers.Answer.the-variants.{Done};
+ghost use Rattle.answers.specs.declared.Answer.the-variants.{Done};
 ghost use Rattle.records.specs.Words.{wordBytes};
 ghost use Rattle.records.specs.Records.{headerWords};
-ghost use Rattle.search.specs.Doors.{Left, searchLeaves};
+ghost use Rattle.engines.specs.Results.{SearchLeft};
+ghost use Rattle.search.specs.Doors.{searchLeaves};
 ghost use Rattle.agreed.specs.Filed.{sizeTold, Filed};
-use costs::answers::Answer;
-use costs::answers::number;
+use answers::Answer;
+use answers::number;
 use costs::networks::Network;
 use desk::check;
+use engines::results::Searched;
+use records::layout::STEP_WORDS;
+use records::layout::WORD_BYTES;
 use records::words::word_at;
-use search::results::Searched;
 use search::search;
 
 pub struct Checked {
@@ -30,7 +33,7 @@ pub fn search_and_check(
     out: &mut [u8],
     budget: u64,
 ) -> Checked
-    ensures { λ r. ⌜ (record { result = r .found; out = now (out .exit) } ≡ searchLeaves net (now (held .entry)) (now (work .entry)) (now (out .entry)) true budget) × (r .answer ≡ r .found .answer) × (r .found .answer ≡ Done → Filed net (now (held .entry)) (length (now (work .entry))) (now (out .exit))) × ((j : ℕ) → getD (now (work .exit)) j 0 ≡ 0) ⌝ }
+    ensures { λ r. ⌜ (record { result = r .found; out = now (out .exit) } ≡ searchLeaves net (now (held .entry)) (length (now (work .entry))) (length (now (out .entry))) true budget) × (r .answer ≡ r .found .answer) × (r .found .answer ≡ Done → Filed net (now (held .entry)) (length (now (work .entry))) (now (out .exit))) × ((j : ℕ) → getD (now (work .exit)) j 0 ≡ 0) ⌝ }
 {
     let found = search(net, held, work, out, true, budget);
     let said = found.answer;
@@ -60,5 +63,5 @@ fn record_size(out: &[u8]) -> usize
 {
     let first = word_at(out, 6) as usize;
     let steps = word_at(out, 7) as usize;
-    (first + steps * 5) * 8
+    (first + steps * STEP_WORDS) * WORD_BYTES
 }

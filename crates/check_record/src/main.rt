@@ -1,12 +1,12 @@
 // Checks a record against a network, each in a file that an argument names, and prints `accepted` or the refusal.
+use answers::Answer;
+use answers::number;
 use console::ERRORS;
-use console::OUT;
-use console::fill_from_argument;
+use console::hand_over;
+use console::read_in_argument;
 use console::say;
-use console::say_refusal;
-use costs::answers::Answer;
-use costs::answers::number;
 use costs::limits::ENTRIES;
+use lines::refusal;
 use reader::limits::TEXT;
 
 // One byte more than a text may have: a text that fills this is refused for its length.
@@ -31,11 +31,11 @@ fn check_in(text: &mut [u8; INPUT], record: &mut [u8; ROOM]) {
 }
 
 fn read_and_check(text: &mut [u8], record: &mut [u8]) {
-    let text_came = fill_from_argument(1, text);
+    let text_came = read_in_argument(1, text);
     if text_came.failed {
         return;
     }
-    let record_came = fill_from_argument(2, record);
+    let record_came = read_in_argument(2, record);
     if record_came.failed {
         return;
     }
@@ -66,9 +66,11 @@ fn check(text: &[u8], record: &[u8]) {
 
 fn tell(answer: Answer) {
     if number(answer) != 0 {
-        say_refusal(OUT, answer);
-    } else {
-        say(OUT, b"accepted");
+        let lines = refusal(answer);
+        let bytes = lines.bytes;
+        let len = lines.len;
+        hand_over(&bytes[..len]);
+        return;
     }
-    say(OUT, b"\n");
+    hand_over(b"accepted\n");
 }

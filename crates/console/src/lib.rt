@@ -1,7 +1,8 @@
 // What the programs share: inputs read whole, and the lines that they write, piece by piece.
 ghost use Rattle.io.specs.Counts.{Counts};
-use costs::answers::Answer;
+use answers::Answer;
 use costs::limits::VARS;
+use costs::networks::wide;
 use costs::plans::Plan;
 
 pub const IN: i32 = 0;
@@ -11,20 +12,20 @@ pub const OUT: i32 = 1;
 pub const ERRORS: i32 = 2;
 
 // How many bytes came before the input ended or the buffer was full; a read that failed ends it too, and is told apart.
-pub struct Filled {
+pub struct Came {
     pub many: usize,
     pub failed: bool,
 }
 
 // Reads on until the buffer is full or the input ends, however few bytes a read delivers.
-pub fn fill(from: i32, buffer: &mut [u8]) -> Filled
+pub fn read_in(from: i32, buffer: &mut [u8]) -> Came
     ensures { λ r. ⌜ Counts (r .many) (now (buffer .exit)) ⌝ }
 {
     let mut many: usize = 0;
     while many < buffer.len() {
         let more = read_on(from, &mut buffer[many..]);
         if more.failed {
-            return Filled {
+            return Came {
                 many: many,
                 failed: true,
             };
@@ -35,32 +36,32 @@ pub fn fill(from: i32, buffer: &mut [u8]) -> Filled
         }
         many += came;
     }
-    Filled {
+    Came {
         many: many,
         failed: false,
     }
 }
 
-fn read_on(from: i32, buffer: &mut [u8]) -> Filled
+fn read_on(from: i32, buffer: &mut [u8]) -> Came
     ensures { λ r. ⌜ Counts (r .many) (now (buffer .exit)) ⌝ }
 {
     let got = libc::read(from, buffer);
     let came = io::count(got, buffer);
-    Filled {
+    Came {
         many: came,
         failed: got < 0,
     }
 }
 
 // The bytes of the file that an argument names. What cannot be read is told on standard error.
-pub fn fill_from_argument(argument: usize, buffer: &mut [u8]) -> Filled
+pub fn read_in_argument(argument: usize, buffer: &mut [u8]) -> Came
     ensures { λ r. ⌜ Counts (r .many) (now (buffer .exit)) ⌝ }
 {
     let mut path = io::buffer();
     let named = os::arg(argument, &mut path);
     if os::errno() != 0 {
         os::fail(b"an argument cannot be read");
-        return Filled {
+        return Came {
             many: 0,
             failed: true,
         };
@@ -68,21 +69,28 @@ pub fn fill_from_argument(argument: usize, buffer: &mut [u8]) -> Filled
     let file = os::open_read(&path[..named]);
     if file < 0 {
         os::fail(&path[..named]);
-        return Filled {
+        return Came {
             many: 0,
             failed: true,
         };
     }
-    let filled = fill(file, buffer);
-    if filled.failed {
+    let came = read_in(file, buffer);
+    if came.failed {
         os::fail(&path[..named]);
     }
     libc::close(file);
-    filled
+    came
 }
 
 pub fn say(to: i32, words: &[u8]) {
     io::write_all(to, words);
+}
+
+// What a program was run for, to standard output. Where it is lost, that is told on standard error.
+pub fn hand_over(result: &[u8]) {
+    if !io::write_all(OUT, result) {
+        os::fail(b"standard output");
+    }
 }
 
 // A number, a space before it.
@@ -99,9 +107,9 @@ pub fn say_refusal(to: i32, answer: Answer) {
 
 // The number of a refusal and its place.
 pub fn say_place(to: i32, answer: Answer) {
-    say_number(to, costs::answers::number(answer));
+    say_number(to, answers::number(answer));
     say(to, b" at");
-    say_number(to, costs::answers::place(answer) as u64);
+    say_number(to, answers::place(answer) as u64);
 }
 
 // The plan's values, a space before each.
@@ -113,11 +121,7 @@ pub fn say_values(to: i32, plan: Plan) {
         if len <= v {
             return;
         }
-        say_number(to, wide(choice[v]));
+        say_number(to, wide(choice[v]) as u64);
         v += 1;
     }
-}
-
-fn wide(byte: u8) -> u64 {
-    byte as u64
 }

@@ -1,8 +1,8 @@
 // Reads a network from standard input and prints the verdict on it: the cheapest plan, "none", or a refusal.
 use console::ERRORS;
 use console::IN;
-use console::OUT;
-use console::fill;
+use console::hand_over;
+use console::read_in;
 use console::say;
 use reader::limits::TEXT;
 use verdict::verdict;
@@ -20,7 +20,7 @@ fn main() {
 }
 
 fn read_and_tell(text: &mut [u8]) {
-    let came = fill(IN, text);
+    let came = read_in(IN, text);
     if came.failed {
         os::fail(b"standard input");
         return;
@@ -29,5 +29,5 @@ fn read_and_tell(text: &mut [u8]) {
     let lines = verdict(&text[..many]);
     let bytes = lines.bytes;
     let len = lines.len;
-    say(OUT, &bytes[..len]);
+    hand_over(&bytes[..len]);
 }

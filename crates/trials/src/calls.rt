@@ -1,34 +1,35 @@
 // Each call on a frame's text, and the line that tells what it handed back and what stands in the lent buffers.
-use crate::headers::Call;
-use crate::headers::Header;
-use crate::headers::NUMBERS;
-use crate::headers::RECORD;
-use crate::headers::ROOM;
-use crate::lending::Lent;
-use crate::lending::UNWRITTEN;
-use crate::lending::byte_of;
-use crate::lending::lengths_lent;
-use crate::lending::replace_entry;
-use crate::lending::replaced;
-use crate::lines::say_byte_runs;
-use crate::lines::say_done;
-use crate::lines::say_runs;
-use crate::lines::wide;
+use answers::number;
 use console::OUT;
 use console::say;
 use console::say_number;
 use console::say_place;
 use console::say_refusal;
 use console::say_values;
-use costs::answers::number;
 use costs::limits::ENTRIES;
 use costs::limits::FUNCTIONS;
+use costs::limits::ROW;
 use costs::limits::VARS;
 use costs::networks::Network;
 use costs::plans::Plan;
-use desk::showing::Which;
 use shifts::moves::Move;
 use shifts::nodes::Node;
+use showing::Which;
+use trial_frames::headers::Call;
+use trial_frames::headers::Header;
+use trial_frames::headers::NUMBERS;
+use trial_frames::headers::RECORD;
+use trial_frames::headers::ROOM;
+use trial_frames::lending::Lent;
+use trial_frames::lending::UNWRITTEN;
+use trial_frames::lending::byte_of;
+use trial_frames::lending::lengths_lent;
+use trial_frames::lending::replace_entry;
+use trial_frames::lending::replaced;
+use trial_frames::lines::say_byte_runs;
+use trial_frames::lines::say_done;
+use trial_frames::lines::say_runs;
+use trial_frames::lines::wide;
 
 // A record's buffer before the search.
 const UNWRITTEN_BYTE: u8 = 170;
@@ -104,14 +105,14 @@ fn say_scope(net: Network, f: usize) {
         return;
     }
     let scopes = net.scopes;
-    let arity = wide(scopes[f * 4]);
+    let arity = wide(scopes[f * ROW]);
     say_number(OUT, arity);
     let mut j: u64 = 0;
     while j < 3 {
         if arity <= j {
             return;
         }
-        say_number(OUT, wide(scopes[f * 4 + 1 + j as usize]));
+        say_number(OUT, wide(scopes[f * ROW + 1 + j as usize]));
         j += 1;
     }
 }
@@ -161,7 +162,7 @@ fn asks_to_show(header: Header) -> bool {
 // "the table after a pass at the free node"
 fn pass_free(net: Network, held: &[u64; ROOM], work: &mut [u64; ROOM]) {
     let free = Node { fixed: [0u8; VARS] };
-    shifts::pass(net, held, work, free);
+    passes::pass(net, held, work, free);
 }
 
 // Lends as much of each table as was asked for, which a header that fits keeps within its room.
@@ -228,7 +229,7 @@ fn call_price(net: Network, held: &[u64], count: u64, choice: [u8; VARS]) {
         choice: choice,
         len: count as usize,
     };
-    let priced = costs::price(net, held, plan);
+    let priced = prices::price(net, held, plan);
     let answer = priced.answer;
     say_done(answer, priced.price);
 }
@@ -263,7 +264,7 @@ fn move_of(numbers: &[u64; NUMBERS]) -> Move {
 
 fn call_shift(net: Network, table: &mut [u64], fixed: [u8; VARS], one: Move) {
     let node = Node { fixed: fixed };
-    let outcome = shifts::shift(net, table, node, one);
+    let outcome = shifting::shift(net, table, node, one);
     let answer = outcome.answer;
     say_done(answer, outcome.constant);
     say(OUT, b" table");
@@ -272,7 +273,7 @@ fn call_shift(net: Network, table: &mut [u64], fixed: [u8; VARS], one: Move) {
 
 fn call_pass(net: Network, held: &[u64], work: &mut [u64], fixed: [u8; VARS]) {
     let node = Node { fixed: fixed };
-    let outcome = shifts::pass(net, held, work, node);
+    let outcome = passes::pass(net, held, work, node);
     let answer = outcome.answer;
     say_done(answer, outcome.constant);
     say(OUT, b" work");
@@ -344,8 +345,8 @@ fn call_show<'a>(net: Network, held: &'a [u64], worked: &'a [u64], which: u64, f
     say(OUT, b"part");
     let f = function as usize;
     if which == 0 {
-        say_runs(desk::shown(net, held, worked, Which::Held, f));
+        say_runs(showing::shown(net, held, worked, Which::Held, f));
     } else {
-        say_runs(desk::shown(net, held, worked, Which::Worked, f));
+        say_runs(showing::shown(net, held, worked, Which::Worked, f));
     }
 }

@@ -1,17 +1,17 @@
 // A frame: its header, its payload, the line end behind it, and the line that answers it.
 use crate::calls::answer;
-use crate::headers::Call;
-use crate::headers::fits;
-use crate::headers::read_header;
-use crate::headers::record_length;
-use crate::headers::text_length;
-use crate::lending::Lent;
-use crate::lending::lent_by;
-use crate::lending::nothing_lent;
 use console::IN;
 use console::OUT;
-use console::fill;
+use console::read_in;
 use console::say;
+use trial_frames::headers::Call;
+use trial_frames::headers::fits;
+use trial_frames::headers::read_header;
+use trial_frames::headers::record_length;
+use trial_frames::headers::text_length;
+use trial_frames::lending::Lent;
+use trial_frames::lending::lent_by;
+use trial_frames::lending::nothing_lent;
 
 // What a frame leaves to the next one.
 pub struct Next {
@@ -60,13 +60,13 @@ pub fn frame(text: &mut [u8], record: &mut [u8], lent: Lent) -> Next {
 }
 
 fn came_whole(bytes: &mut [u8]) -> bool {
-    let came = fill(IN, bytes);
+    let came = read_in(IN, bytes);
     came.many == bytes.len()
 }
 
 fn line_ends() -> bool {
     let mut one = [0u8; 1];
-    let came = fill(IN, &mut one);
+    let came = read_in(IN, &mut one);
     came.many == 1 && one[0] == b'\n'
 }
 

@@ -2,12 +2,9 @@
 // lines.
 mod calls;
 mod frames;
-mod headers;
-mod lending;
-mod lines;
 
 use crate::frames::frame;
-use crate::lending::nothing_lent;
+use trial_frames::lending::nothing_lent;
 
 // "T at most 70,000, R and a record's room at most 400,000"
 const TEXT: usize = 70_000;

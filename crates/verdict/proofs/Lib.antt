@@ -1,3 +1,1 @@
-mod NumeralLaws
-mod LineLaws
 mod VerdictLaws

@@ -1,17 +1,21 @@
 // Reads a network from standard input, searches it and writes the decision record to standard output. Whatever else there is to say goes to standard
 // error, so that what a refusal leaves on standard output is no record.
+use answers::Answer;
+use answers::number;
 use console::ERRORS;
 use console::IN;
-use console::OUT;
-use console::fill;
+use console::hand_over;
+use console::read_in;
 use console::say;
 use console::say_refusal;
-use costs::answers::Answer;
-use costs::answers::number;
 use costs::limits::ENTRIES;
 use costs::limits::VARS;
 use costs::networks::Network;
 use reader::limits::TEXT;
+use records::layout::HEADER_BYTES;
+use records::layout::HEADER_WORDS;
+use records::layout::STEP_WORDS;
+use records::layout::WORD_BYTES;
 use records::words::word_at;
 
 // That of the program `fringepond`.
@@ -33,7 +37,7 @@ fn main() {
 }
 
 fn read_and_write(text: &mut [u8]) {
-    let came = fill(IN, text);
+    let came = read_in(IN, text);
     if came.failed {
         os::fail(b"standard input");
         return;
@@ -70,7 +74,7 @@ fn write_in(net: Network, held: &[u64], record: &mut [u8]) {
     }
     let many = told_length(record);
     if many <= record.len() {
-        say(OUT, &record[..many]);
+        hand_over(&record[..many]);
     }
 }
 
@@ -79,9 +83,9 @@ fn refuse(answer: Answer) {
     say(ERRORS, b"\n");
 }
 
-// The bytes of the record that stands at the front of the buffer: its header, its values and its steps of five words.
+// The bytes of the record that stands at the front of the buffer: its header, its values and its steps.
 fn told_length(record: &[u8]) -> usize {
-    if record.len() < 64 {
+    if record.len() < HEADER_BYTES {
         return 0;
     }
     let values = word_at(record, 5);
@@ -92,5 +96,5 @@ fn told_length(record: &[u8]) -> usize {
     if (ROOM as u64) < steps {
         return 0;
     }
-    ((8 + values + steps * 5) * 8) as usize
+    ((HEADER_WORDS as u64) + values + steps * (STEP_WORDS as u64)) as usize * WORD_BYTES
 }

@@ -2,9 +2,9 @@ use mathlib.Core.Path.{_≡_, refl, sym, _∙_}
 use native.Mathlib.Omega.{arith}
 use lib.ListN.{length}
 use borrow.Author.Needs.{needs}
-use Rattle.costs.specs.declared.answers.Answer.the-variants.{Done}
-use Rattle.costs.proofs.AnswerLaws.{number-done}
-use Rattle.shifts.proofs.TableLaws.{cleared-at}
+use Rattle.answers.specs.declared.Answer.the-variants.{Done}
+use Rattle.answers.proofs.AnswerLaws.{number-done}
+use Rattle.tables.proofs.TableLaws.{cleared-at}
 use Rattle.agreed.proofs.FiledRecords.{filed-inside, filed-answer}
 use Rattle.agreed.proofs.desk_answer.Statement.{statement}
 use Rattle.agreed.proofs.desk_answer.Tie as tie

@@ -2,10 +2,6 @@ use Prim.Native.Nat.{_≤_, _-_}
 use borrow.Author.Needs.{needs}
 use Rattle.console.proofs.say_values.Statement.{statement}
 use Rattle.console.proofs.say_values.Tie as tie
-use Rattle.console.proofs.say_values.Reads as reads
-use Rattle.console.proofs.say_values.Lts as lts
-use Rattle.console.proofs.say_number.Reads as say-number-reads
-use Rattle.console.proofs.wide.Reads as wide-reads
 
 abbrev Inv-loop : tie.InvT-loop
 Inv-loop to choice len v₀ v = v ≤ 64
@@ -13,39 +9,30 @@ Inv-loop to choice len v₀ v = v ≤ 64
 abbrev μ-loop : tie.MeasureT-loop
 μ-loop to choice len v₀ v = 64 - v
 
--- src/lib.rt:111:5
 loop-holds : tie.Need-loop-holds Inv-loop μ-loop
 loop-holds c = search needs
 
--- src/lib.rt:113:13
 returns : tie.Need-returns Inv-loop μ-loop
 returns c = search needs
 
--- src/lib.rt:115:29
 array-read-wide : tie.Need-array-read-wide Inv-loop μ-loop
 array-read-wide c = search needs
 
--- src/lib.rt:115:24
 wide-requires : tie.Need-wide-requires Inv-loop μ-loop
 wide-requires c κs = search needs
 
--- src/lib.rt:115:9
 say-number-requires : tie.Need-say-number-requires Inv-loop μ-loop
 say-number-requires c κs = search needs
 
--- src/lib.rt:116:9
 add-v : tie.Need-add-v Inv-loop μ-loop
 add-v c = search needs
 
--- src/lib.rt:111:5
 loop-less : tie.Need-loop-less Inv-loop μ-loop
 loop-less c = search needs
 
--- src/lib.rt:111:5
 loop-again : tie.Need-loop-again Inv-loop μ-loop
 loop-again c = search needs
 
--- src/lib.rt:107:1
 returns-2 : tie.Need-returns-2 Inv-loop μ-loop
 returns-2 c = search needs
 

@@ -6,7 +6,7 @@ use Rattle.trials.proofs.frame_by_frame.Tie as tie
 use Rattle.trials.proofs.frame_by_frame.Reads as reads
 use Rattle.trials.proofs.frame_by_frame.Lts as lts
 use Rattle.trials.proofs.frames.frame.Reads as frame-reads
-use Rattle.trials.proofs.lending.nothing_lent.Reads as nothing-lent-reads
+use Rattle.trial_frames.proofs.lending.nothing_lent.Reads as nothing-lent-reads
 
 abbrev Inv-loop : tie.InvT-loop
 Inv-loop text₀ record₀ lent₀ turns₀ text «record» lent turns = (length text ≡ length text₀) × (length «record» ≡ length record₀)

@@ -1,36 +1,25 @@
 use Prim.Native.Nat.{min}
 use borrow.Author.Tests.{lt-ltb, le-ltb}
 use Rattle.costs.specs.Limits.{varsMost}
-use Rattle.verdict.specs.Numerals.{numeral}
-use Rattle.verdict.specs.Lines.{costWord, noneWord, planWord, choicesTo}
-use Rattle.verdict.proofs.LineLaws.{behind}
+use Rattle.lines.specs.Numerals.{numeral}
+use Rattle.lines.specs.Lines.{costWord, noneWord, planWord, choicesTo}
+use Rattle.lines.proofs.LineLaws.{behind}
 use borrow.Author.Needs.{needs}
 use Rattle.verdict.proofs.outcome.Statement.{statement}
 use Rattle.verdict.proofs.outcome.Tie as tie
-use Rattle.verdict.proofs.outcome.Reads as reads
-use Rattle.verdict.proofs.outcome.Lts as lts
-use Rattle.verdict.proofs.nothing.Reads as nothing-reads
-use Rattle.verdict.proofs.with_choices.Reads as with-choices-reads
-use Rattle.verdict.proofs.with_number.Reads as with-number-reads
-use Rattle.verdict.proofs.with_word.Reads as with-word-reads
 
--- src/lib.rt:63:30
 nothing-requires : tie.Need-nothing-requires
 nothing-requires c κs = search needs
 
--- src/lib.rt:63:41
 slice-aggregate-with-word : tie.Need-slice-aggregate-with-word
 slice-aggregate-with-word c = search needs
 
--- src/lib.rt:63:13
 with-word-requires : tie.Need-with-word-requires
 with-word-requires c κs = search needs
 
--- src/lib.rt:64:9
 with-number-requires : tie.Need-with-number-requires
 with-number-requires c κs = search needs
 
--- src/lib.rt:64:9
 returns : tie.Need-returns
 returns c =
     let found = c .before .before .before .before .before .before .args .found in
@@ -38,35 +27,27 @@ returns c =
     let none = behind noneWord (c .before .before .before .nothing .ensures .0) (c .before .with-word .ensures .0) in
     (rw (le-ltb (found .cost) top (search needs)) (behind (numeral (found .cost)) none (c .with-number .ensures .0)), search needs)
 
--- src/lib.rt:66:26
 nothing-requires-2 : tie.Need-nothing-requires-2
 nothing-requires-2 c κs = search needs
 
--- src/lib.rt:66:37
 slice-aggregate-with-word-2 : tie.Need-slice-aggregate-with-word-2
 slice-aggregate-with-word-2 c = search needs
 
--- src/lib.rt:66:9
 with-word-requires-2 : tie.Need-with-word-requires-2
 with-word-requires-2 c κs = search needs
 
--- src/lib.rt:67:9
 with-number-requires-2 : tie.Need-with-number-requires-2
 with-number-requires-2 c κs = search needs
 
--- src/lib.rt:68:37
 slice-aggregate-with-word-3 : tie.Need-slice-aggregate-with-word-3
 slice-aggregate-with-word-3 c = search needs
 
--- src/lib.rt:68:9
 with-word-requires-3 : tie.Need-with-word-requires-3
 with-word-requires-3 c κs = search needs
 
--- src/lib.rt:70:5
 with-choices-requires : tie.Need-with-choices-requires
 with-choices-requires c κs = search needs
 
--- src/lib.rt:59:1
 returns-2 : tie.Need-returns-2
 returns-2 c =
     let found = c .before .before .before .before .before .before .before .before .before .before .args .found in

@@ -3,61 +3,44 @@ use mathlib.Core.Path.{_≡_}
 use mathlib.Core.Bool.{true, false}
 use lib.Dec.{eqb}
 use borrow.Author.Tests.{eq-eqb, ne-eqb}
-use Rattle.costs.specs.Answers.{numberOf}
-use Rattle.verdict.specs.Numerals.{numeral}
-use Rattle.verdict.specs.Lines.{nodesWord, lineEnd}
-use Rattle.verdict.proofs.LineLaws.{behind}
+use Rattle.answers.specs.Answers.{numberOf}
+use Rattle.lines.specs.Numerals.{numeral}
+use Rattle.lines.specs.Lines.{nodesWord, lineEnd}
+use Rattle.lines.proofs.LineLaws.{behind}
 use borrow.Author.Needs.{needs}
 use Rattle.verdict.proofs.searched.Statement.{statement}
 use Rattle.verdict.proofs.searched.Tie as tie
-use Rattle.verdict.proofs.searched.Reads as reads
-use Rattle.verdict.proofs.searched.Lts as lts
-use Rattle.costs.proofs.answers.number.Reads as number-reads
-use Rattle.verdict.proofs.outcome.Reads as outcome-reads
-use Rattle.verdict.proofs.refusal.Reads as refusal-reads
-use Rattle.verdict.proofs.with_number.Reads as with-number-reads
-use Rattle.verdict.proofs.with_word.Reads as with-word-reads
 
--- src/lib.rt:50:8
 number-requires : tie.Need-number-requires
 number-requires c κs = search needs
 
--- src/lib.rt:51:9
 refusal-requires : tie.Need-refusal-requires
 refusal-requires c κs = search needs
 
--- src/lib.rt:51:9
 returns : tie.Need-returns
 returns c =
     let answer = c .before .before .before .args .found .answer in
     let not-done : eqb (numberOf answer) 0 ≡ false = ne-eqb (numberOf answer) 0 (λ e. absurd (omega (arith, e, c .before .before .number .ensures))) in
     (rw not-done (c .refusal .ensures .0), search needs)
 
--- src/lib.rt:53:9
 outcome-requires : tie.Need-outcome-requires
 outcome-requires c κs = search needs
 
--- src/lib.rt:54:35
 slice-aggregate-with-word : tie.Need-slice-aggregate-with-word
 slice-aggregate-with-word c = search needs
 
--- src/lib.rt:54:9
 with-word-requires : tie.Need-with-word-requires
 with-word-requires c κs = search needs
 
--- src/lib.rt:55:9
 with-number-requires : tie.Need-with-number-requires
 with-number-requires c κs = search needs
 
--- src/lib.rt:56:22
 slice-aggregate-with-word-2 : tie.Need-slice-aggregate-with-word-2
 slice-aggregate-with-word-2 c = search needs
 
--- src/lib.rt:56:5
 with-word-requires-2 : tie.Need-with-word-requires-2
 with-word-requires-2 c κs = search needs
 
--- src/lib.rt:46:1
 returns-2 : tie.Need-returns-2
 returns-2 c =
     let found = c .before .before .before .before .before .before .before .before .args .found in

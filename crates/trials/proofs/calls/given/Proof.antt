@@ -4,7 +4,7 @@ use Rattle.trials.proofs.calls.given.Statement.{statement}
 use Rattle.trials.proofs.calls.given.Tie as tie
 use Rattle.trials.proofs.calls.given.Reads as reads
 use Rattle.trials.proofs.calls.given.Lts as lts
-use Rattle.trials.proofs.lending.byte_of.Reads as byte-of-reads
+use Rattle.trial_frames.proofs.lending.byte_of.Reads as byte-of-reads
 
 abbrev Inv-loop : tie.InvT-loop
 Inv-loop numbers from many bytes₀ at₀ v₀ bytes at v = v ≤ 64

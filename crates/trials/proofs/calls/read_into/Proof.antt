@@ -8,11 +8,11 @@ use Rattle.trials.proofs.calls.read_into.Lts as lts
 use Rattle.console.proofs.say.Reads as say-reads
 use Rattle.console.proofs.say_number.Reads as say-number-reads
 use Rattle.console.proofs.say_refusal.Reads as say-refusal-reads
-use Rattle.costs.proofs.answers.number.Reads as number-reads
+use Rattle.answers.proofs.number.Reads as number-reads
 use Rattle.reader.proofs.reading.read.Reads as read-reads
 use Rattle.trials.proofs.calls.say_scopes.Reads as say-scopes-reads
 use Rattle.trials.proofs.calls.say_sizes.Reads as say-sizes-reads
-use Rattle.trials.proofs.lines.say_runs.Reads as say-runs-reads
+use Rattle.trial_frames.proofs.lines.say_runs.Reads as say-runs-reads
 
 -- src/calls.rt:53:9
 returns : tie.Need-returns

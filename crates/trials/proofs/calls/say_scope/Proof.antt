@@ -5,7 +5,7 @@ use Rattle.trials.proofs.calls.say_scope.Tie as tie
 use Rattle.trials.proofs.calls.say_scope.Reads as reads
 use Rattle.trials.proofs.calls.say_scope.Lts as lts
 use Rattle.console.proofs.say_number.Reads as say-number-reads
-use Rattle.trials.proofs.lines.wide.Reads as wide-reads
+use Rattle.trial_frames.proofs.lines.wide.Reads as wide-reads
 
 abbrev Inv-loop : tie.InvT-loop
 Inv-loop f scopes arity j₀ j = j ≤ 3

@@ -5,7 +5,7 @@ use Rattle.trials.proofs.calls.say_sizes.Tie as tie
 use Rattle.trials.proofs.calls.say_sizes.Reads as reads
 use Rattle.trials.proofs.calls.say_sizes.Lts as lts
 use Rattle.console.proofs.say_number.Reads as say-number-reads
-use Rattle.trials.proofs.lines.wide.Reads as wide-reads
+use Rattle.trial_frames.proofs.lines.wide.Reads as wide-reads
 
 abbrev Inv-loop : tie.InvT-loop
 Inv-loop sizes vars v₀ v = v ≤ 64

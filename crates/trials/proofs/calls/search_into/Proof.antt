@@ -9,10 +9,10 @@ use Rattle.console.proofs.say.Reads as say-reads
 use Rattle.console.proofs.say_number.Reads as say-number-reads
 use Rattle.console.proofs.say_refusal.Reads as say-refusal-reads
 use Rattle.console.proofs.say_values.Reads as say-values-reads
-use Rattle.costs.proofs.answers.number.Reads as number-reads
+use Rattle.answers.proofs.number.Reads as number-reads
 use Rattle.search.proofs.search.Reads as search-reads
-use Rattle.trials.proofs.lines.say_byte_runs.Reads as say-byte-runs-reads
-use Rattle.trials.proofs.lines.say_runs.Reads as say-runs-reads
+use Rattle.trial_frames.proofs.lines.say_byte_runs.Reads as say-byte-runs-reads
+use Rattle.trial_frames.proofs.lines.say_runs.Reads as say-runs-reads
 
 -- src/calls.rt:300:9
 returns : tie.Need-returns

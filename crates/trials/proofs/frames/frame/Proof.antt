@@ -11,12 +11,12 @@ use Rattle.trials.proofs.frames.bad_frame.Reads as bad-frame-reads
 use Rattle.trials.proofs.frames.came_whole.Reads as came-whole-reads
 use Rattle.trials.proofs.frames.line_ends.Reads as line-ends-reads
 use Rattle.trials.proofs.frames.the_end.Reads as the-end-reads
-use Rattle.trials.proofs.headers.fits.Reads as fits-reads
-use Rattle.trials.proofs.headers.read_header.Reads as read-header-reads
-use Rattle.trials.proofs.headers.record_length.Reads as record-length-reads
-use Rattle.trials.proofs.headers.text_length.Reads as text-length-reads
-use Rattle.trials.proofs.lending.lent_by.Reads as lent-by-reads
-use Rattle.trials.proofs.lending.nothing_lent.Reads as nothing-lent-reads
+use Rattle.trial_frames.proofs.headers.fits.Reads as fits-reads
+use Rattle.trial_frames.proofs.headers.read_header.Reads as read-header-reads
+use Rattle.trial_frames.proofs.headers.record_length.Reads as record-length-reads
+use Rattle.trial_frames.proofs.headers.text_length.Reads as text-length-reads
+use Rattle.trial_frames.proofs.lending.lent_by.Reads as lent-by-reads
+use Rattle.trial_frames.proofs.lending.nothing_lent.Reads as nothing-lent-reads
 
 -- src/frames.rt:24:9
 read-header-requires : tie.Need-read-header-requires

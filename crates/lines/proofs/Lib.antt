@@ -1,0 +1,2 @@
+mod NumeralLaws
+pub mod LineLaws
