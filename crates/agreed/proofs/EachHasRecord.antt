@@ -1,5 +1,5 @@
 -- "each network of at most 4,294,967,296 plans has such a record": of the numbers and the table that calls are lent. Assumes nothing.
-use Prim.Native.Nat.{ℕ, _+_, _*_, _^_, _≤_}
+use Prim.Native.Nat.{ℕ, _^_, _≤_}
 use mathlib.Core.List.{List}
 use native.Mathlib.Omega.{arith}
 use lib.ListN.{length}

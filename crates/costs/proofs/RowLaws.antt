@@ -1,7 +1,6 @@
 -- Laws of rows: a scope read place by place, as a loop over its arity has it. Assumes nothing.
 use Prim.Native.Nat.{ℕ, zero, suc, _+_, _-_, _*_, _^_, _≤_, _<_}
-use mathlib.Core.Path.{_≡_, refl, sym, ap, _∙_}
-use mathlib.Core.Bool.{Bool, true, false, cond}
+use mathlib.Core.Path.{_≡_, refl, _∙_}
 use mathlib.Core.List.{List, [], _∷_}
 use native.Mathlib.Omega.{arith}
 use native.Mathlib.Decide.{decLt}
@@ -9,7 +8,7 @@ use native.Mathlib.Nat.{mul-assoc, add-mul, mul-le-mul, mul-le-mul-left, mul-le-
 use native.Mathlib.Numerals.{add-one}
 use lib.Dec.{ltb, lt→ltb, ltb→lt}
 use lib.ListN.{length, getD, take, drop, length-take}
-use Rattle.costs.specs.Limits.{varsMost, sizeMost, functionsMost}
+use Rattle.costs.specs.Limits.{sizeMost}
 use Rattle.costs.specs.Range.{sumTo}
 use Rattle.costs.specs.Net.{Sound, All, tuples, entry, startOf}
 use Rattle.costs.specs.Networks.{inRow, scopeIn, scopesOf, sizesOf, functionStart, netOf, Scoped}

@@ -1,17 +1,17 @@
 -- The desk accepts exactly the records that keep the rules. Assumes nothing.
 use Prim.Native.Nat.{ℕ, zero, suc, _+_, _*_, _/_, _%_, _≤_, _<_, min}
-use mathlib.Core.Path.{_≡_, refl, sym, ap, _∙_}
-use mathlib.Core.Bool.{Bool, true, false, cond, not}
+use mathlib.Core.Path.{_≡_, refl, sym, _∙_}
+use mathlib.Core.Bool.{true, cond, not}
 use mathlib.Core.Logic.{inl, inr, ⊎-elim}
 use mathlib.Core.List.{List, [], _∷_}
 use mathlib.Core.Option.{none}
 use native.Mathlib.Omega.{arith}
-use lib.Dec.{T, leb, ltb, eqb}
+use lib.Dec.{leb, ltb, eqb}
 use lib.ListN.{length}
 use borrow.Author.Tests.{lt-ltb, ltb-true, not-false}
 use Rattle.costs.specs.declared.networks.Network.{Network}
 use Rattle.answers.specs.declared.Answer.the-variants.{Done}
-use Rattle.costs.specs.Net.{Net, Costs, IsPlan, costsOf, price, entries}
+use Rattle.costs.specs.Net.{Net, Costs, IsPlan, costsOf, price}
 use Rattle.costs.specs.Networks.{stands}
 use Rattle.judging.specs.declared.Judged.{Judged}
 use Rattle.judging.specs.declared.Judged.the-variants.{Fit, Refused}

@@ -1,10 +1,9 @@
 -- Laws of one function and all of them, one turn at a time. Assumes nothing.
 use Prim.Native.Nat.{ℕ, zero, suc, _+_, _≤_, _<_, max}
-use mathlib.Core.Path.{_≡_, refl, sym, ap, _∙_}
+use mathlib.Core.Path.{_≡_, refl, _∙_}
 use mathlib.Core.List.{List, [], _∷_}
 use native.Mathlib.Omega.{arith}
 use lib.ListN.{length, getD, take}
-use lib.Seq.{length-take-le}
 use Rattle.costs.specs.Limits.{sizeMost, arityMost, entriesMost}
 use Rattle.costs.specs.declared.networks.Outline.{Outline}
 use Rattle.answers.specs.declared.Answer.{Answer}

@@ -6,7 +6,7 @@ use native.Mathlib.Omega.{arith}
 use lib.ListN.{length, getD, take, drop, set, length-take}
 use Rattle.costs.specs.declared.networks.Outline.{Outline}
 use Rattle.costs.proofs.RangeLaws.{sumTo-mono}
-use Rattle.placing.specs.Drafts.{Draft, sums, unaryStart, rowSet, withFunction, put}
+use Rattle.placing.specs.Drafts.{Draft, unaryStart, rowSet, put}
 use Rattle.placing.specs.ties.Sheets.{draftOf, stretchAdded, Begun}
 use Rattle.placing.proofs.StretchLaws.{sums-front}
 

@@ -16,7 +16,7 @@ use Rattle.judging.specs.declared.Judged.the-variants.{Fit, Refused}
 use Rattle.judging.specs.declared.Unfit.{Unfit}
 use Rattle.costs.specs.Cost.{plus, plusTo}
 use Rattle.costs.specs.Net.{entries, touched, price, costsOf}
-use Rattle.costs.specs.Networks.{netOf, stands, Ready}
+use Rattle.costs.specs.Networks.{netOf, Ready}
 use Rattle.costs.specs.Cheapest.{valueIn}
 use Rattle.judging.specs.Judging.{judged, refusalOf}
 use Rattle.prices.specs.Plans.{firstBad}

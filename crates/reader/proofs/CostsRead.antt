@@ -1,5 +1,5 @@
 -- The costs that are read: as many as a function has tuples, each at most k. Assumes nothing.
-use Prim.Native.Nat.{ℕ, zero, suc, _*_, _≤_, min}
+use Prim.Native.Nat.{ℕ, zero, suc, _≤_, min}
 use mathlib.Core.Path.{_≡_, refl, sym, ap, _∙_}
 use mathlib.Core.Bool.{Bool, true, false, cond}
 use mathlib.Core.Logic.{_⊎_, inl, inr}

@@ -10,7 +10,7 @@ use native.Mathlib.Decide.{ℕ-discrete, decLt}
 use lib.Dec.{T, ltb, leb, lt→ltb}
 use lib.ListN.{length, getD, take, drop, set, replicate, length-append, length-set, length-take, length-drop, length-replicate, List·getD-append}
 use lib.Seq.{getD-set-same, getD-set-other}
-use Rattle.costs.specs.Limits.{varsMost, sizeMost, arityMost, rowPlaces, functionsMost, costMost, entriesMost}
+use Rattle.costs.specs.Limits.{varsMost, arityMost, rowPlaces, functionsMost, entriesMost}
 use Rattle.costs.specs.Net.{All, tuples, start, entries}
 use Rattle.costs.specs.Networks.{inRow, scopeIn, stands}
 use Rattle.costs.specs.Tests.{different}

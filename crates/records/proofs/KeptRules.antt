@@ -1,5 +1,5 @@
 -- A record that keeps the rules makes a true claim, whoever wrote it. What a step does is shown for each kind, the rest once for all kinds. Assumes nothing.
-use Prim.Native.Nat.{ℕ, _≤_, _<_}
+use Prim.Native.Nat.{ℕ, _≤_}
 use mathlib.Core.Path.{_≡_, refl, _∙_}
 use mathlib.Core.Logic.{_⊎_, inl, inr, ⊎-elim}
 use mathlib.Core.List.{List, [], _∷_}

@@ -1,6 +1,6 @@
 -- Parts of network A's table of document 01, shown by the definitions.
 use mathlib.Core.Path.{_≡_, refl}
-use mathlib.Core.List.{List, [], _∷_}
+use mathlib.Core.List.{[], _∷_}
 use lib.ListN.{set}
 use Rattle.costs.specs.PaperNetworks.{networkA, tableA}
 use Rattle.judging.specs.Judging.{judged, isNetwork, rangesGood, sizesGood, variablesGood, rowGood, scopesGood, stretchesGood, costsGood}

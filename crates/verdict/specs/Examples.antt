@@ -5,7 +5,6 @@ use mathlib.Core.List.{List, [], _∷_}
 use Rattle.answers.specs.declared.Answer.the-variants.{Done, OverBudget}
 use Rattle.costs.specs.Limits.{varsMost}
 use Rattle.costs.specs.PaperNetworks.{padded}
-use Rattle.costs.specs.declared.plans.Plan.{Plan}
 use Rattle.engines.specs.declared.results.Searched.{Searched}
 use Rattle.lines.specs.Numerals.{shortest}
 use Rattle.lines.specs.Lines.{choicesTo}

@@ -1,7 +1,6 @@
 -- The search of document 01 is right, and writes a record that keeps the rules. Assumes nothing.
 use Prim.Native.Nat.{ℕ, zero, _≤_, _<_}
 use mathlib.Core.Path.{_≡_, refl}
-use mathlib.Core.Bool.{not}
 use native.Mathlib.Omega.{arith}
 use lib.Dec.{leb, leb→le, nleb→lt, ltb, ltb→lt, nltb→le}
 use borrow.Author.Tests.{not-true, not-false}

@@ -1,14 +1,12 @@
 -- The search as a recursive function meets it: the node that fixes the first variables to some choices. Assumes nothing.
 use Prim.Native.Nat.{ℕ, zero, suc, _+_, _-_, _≤_, _<_}
 use mathlib.Core.Path.{_≡_, refl, sym, ap, _∙_}
-use mathlib.Core.Bool.{true, false, cond, not}
+use mathlib.Core.Bool.{true, false, cond}
 use mathlib.Core.List.{List, [], _∷_, _++_, map}
 use native.Mathlib.Omega.{arith}
 use native.Mathlib.Decide.{ℕ-discrete, decLt}
 use lib.Dec.{eqb, eqb-refl, leb, ltb, ltb→lt, lt→ltb}
 use borrow.Author.Tests.{lt-ltb, le-ltb, le-leb, lt-leb, eq-eqb, ne-eqb}
-use Rattle.answers.specs.declared.Answer.{Answer}
-use Rattle.answers.specs.declared.Answer.the-variants.{Done}
 use Rattle.costs.specs.Range.{firstTo, listTo}
 use Rattle.costs.specs.Net.{Net, Costs}
 use Rattle.costs.proofs.TestLaws.{is-true, is-false, same-test}
@@ -19,12 +17,11 @@ use Rattle.passes.specs.Passing.{pass}
 use Rattle.records.specs.declared.steps.Step.{Step}
 use Rattle.records.specs.declared.steps.Step.the-variants.{Shift, Close}
 use Rattle.records.specs.Trees.{TreeNode, child}
-use Rattle.engines.specs.Engines.{closes, finds, opens, State, Engine, Gate, closedAt, foundAt, openedAt, endedBy, refuses, taken, eachLive, visit}
+use Rattle.engines.specs.Engines.{closes, finds, opens, State, Engine, Gate, eachLive, visit}
 use Rattle.engines.specs.Nodes.{planOf}
-use Rattle.visiting.specs.FirstSearch.{free, firstLook, firstEngine}
+use Rattle.visiting.specs.FirstSearch.{free, firstLook}
 use Rattle.visiting.specs.ties.Visiting.{prefix}
 use Rattle.recorder.proofs.ListLaws.{listTo-same}
-use Rattle.engines.proofs.RightEngines.{looked, visit-enters}
 
 -- choices past k do not matter
 pub prefix-same : (n : Net) (p q : ℕ → ℕ) (k : ℕ) → ((v : ℕ) → v < k → p v ≡ q v) → prefix n p k ≡ prefix n q k

@@ -1,15 +1,14 @@
 -- The search's state as the code has it. Assumes nothing.
-use Prim.Native.Nat.{ℕ, zero, suc, _+_, _-_, _*_, _≤_, _<_}
+use Prim.Native.Nat.{ℕ, zero, suc, _+_, _-_, _≤_, _<_}
 use mathlib.Core.Path.{_≡_, refl, sym, ap, _∙_, fun-ext}
 use mathlib.Core.Bool.{Bool, true, false, cond}
 use mathlib.Core.List.{List, [], _∷_, _++_, map}
 use native.Mathlib.Omega.{arith}
 use native.Mathlib.Decide.{ℕ-discrete, decLt}
-use lib.Dec.{ltb, eqb, eqb→eq}
+use lib.Dec.{ltb, eqb}
 use lib.ListN.{length, getD, set, length-set}
 use lib.Seq.{getD-set-same, getD-set-other, set-set, set-getD}
 use borrow.Author.Tests.{le-ltb, lt-ltb}
-use Rattle.answers.specs.declared.Answer.{Answer}
 use Rattle.answers.specs.declared.Answer.the-variants.{Done, OverBudget}
 use Rattle.costs.specs.declared.networks.Outline.{Outline}
 use Rattle.costs.specs.Limits.{varsMost}
@@ -27,12 +26,12 @@ use Rattle.recorder.specs.ties.Noted.{movesIn}
 use Rattle.bounds.specs.declared.noting.Noted.{Noted}
 use Rattle.bounds.specs.ties.Noting.{passAt, TellsPass}
 use Rattle.engines.specs.declared.progress.Progress.{Progress}
-use Rattle.engines.specs.Engines.{Look, State, refuses, opens, closedAt, foundAt, openedAt, endedBy, taken, eachLive, visit, budget}
+use Rattle.engines.specs.Engines.{Look, State, refuses, closedAt, foundAt, openedAt, endedBy, taken, eachLive, visit, budget}
 use Rattle.engines.specs.ties.Progressing.{choices, Meets, endedProgress}
 use Rattle.engines.proofs.RightEngines.{visit-stops, visit-enters}
 use Rattle.engines.proofs.ProgressLaws.{over-ended, over-goes, meets-over}
 use Rattle.visiting.specs.declared.Seen.{Seen}
-use Rattle.visiting.specs.FirstSearch.{firstLook, firstEngine}
+use Rattle.visiting.specs.FirstSearch.{firstEngine}
 use Rattle.visiting.specs.ties.Visiting.{prefix, Fixes, Enters, lookAt, Looks, visited, Visits, Through}
 use Rattle.visiting.proofs.PrefixNodes.{prefix-all, prefix-one, prefix-same, chosen, chosen-here, chosen-below, each-child, look-closes, look-finds, look-opens}
 

@@ -1,7 +1,6 @@
 use mathlib.Core.Path.{_≡_}
 use native.Mathlib.Omega.{arith}
 use lib.ListN.{length}
-use borrow.Author.Tests.{not-false}
 use borrow.Author.Needs.{needs}
 use Rattle.bounds.proofs.BoundLaws.{tells-noted, tells-unnoted}
 use Rattle.bounds.proofs.bound_at.Statement.{statement}

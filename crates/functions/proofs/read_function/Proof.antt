@@ -8,7 +8,6 @@ use Rattle.tokens.specs.declared.words.Pos.{Pos}
 use lib.Seq.{length-take-le}
 use lib.ListN.{length, take}
 use native.Mathlib.Omega.{arith}
-use mathlib.Core.List.{List}
 use mathlib.Core.Path.{_≡_, sym, _∙_, ap}
 use Prim.Native.Nat.{_≤_}
 use borrow.Author.Needs.{needs}

@@ -1,9 +1,6 @@
-use mathlib.Core.Path.{_≡_, sym, _∙_}
+use mathlib.Core.Path.{sym, _∙_}
 use native.Mathlib.Omega.{arith}
-use lib.ListN.{length}
 use borrow.Author.Needs.{needs}
-use Rattle.costs.specs.declared.networks.Network.{Network}
-use Rattle.costs.specs.declared.plans.Plan.{Plan}
 use Rattle.prices.proofs.PriceLaws.{priced-refused, priced-length, priced-value, priced-done, priced-ready, none-bad}
 use Rattle.judging.proofs.JudgeLaws.{judged-passed}
 use Rattle.prices.proofs.priced_in.Statement.{statement}

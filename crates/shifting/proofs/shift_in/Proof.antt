@@ -1,5 +1,4 @@
 use mathlib.Core.Path.{sym, _∙_}
-use lib.ListN.{length}
 use borrow.Author.Needs.{needs}
 use Rattle.shifts.proofs.DoorLaws.{fit, shift-refused, shift-fit}
 use Rattle.shifting.proofs.shift_in.Statement.{statement}

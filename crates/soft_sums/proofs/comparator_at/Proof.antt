@@ -1,6 +1,5 @@
 use Rattle.soft_sums.specs.Soft.{comparatorAt}
 use Rattle.soft_sums.proofs.SoftLaws.{comparator-last}
-use borrow.Author.Needs.{needs}
 use Rattle.soft_sums.proofs.comparator_at.Statement.{statement}
 use Rattle.soft_sums.proofs.comparator_at.Tie as tie
 

@@ -1,6 +1,5 @@
 use Rattle.soft_sums.specs.Soft.{modeAt}
 use Rattle.soft_sums.proofs.SoftLaws.{mode-last}
-use borrow.Author.Needs.{needs}
 use Rattle.soft_sums.proofs.mode_at.Statement.{statement}
 use Rattle.soft_sums.proofs.mode_at.Tie as tie
 
