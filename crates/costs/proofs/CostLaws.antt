@@ -26,6 +26,10 @@ minus-cases top a b = go (leb top a) (leb→le top a) (nleb→lt top a)
     go true f g = inl (f tt, refl)
     go false f g = inr (g tt, refl)
 
+-- a cost that gives stays at most k, as one that takes does
+pub minus-most : (top a b : ℕ) → a ≤ top → minus top a b ≤ top
+minus-most top a b h = ⊎-elim (λ w. omega arith) (λ w. omega arith) (minus-cases top a b)
+
 -- what one place gives another takes: the capped total stays
 pub shift-cap : (top c u a rest : ℕ) → a ≤ c → min top (minus top c a + plus top u a + rest) ≡ min top (c + u + rest)
 shift-cap top c u a rest h = ⊎-elim (λ w. omega arith) (λ w. omega arith) (minus-cases top c a)

@@ -1,5 +1,6 @@
 pub mod TestLaws
 pub mod RangeLaws
+pub mod ListLaws
 pub mod CostLaws
 pub mod GivingLaws
 pub mod NetLaws

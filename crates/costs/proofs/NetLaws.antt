@@ -64,3 +64,9 @@ pub price-same : (n : Net) → Sound n → (c : Costs) (p q : ℕ → ℕ) → (
 price-same n good c p q h =
     let e = sumTo-same (n .parts) (λ s. c .at (touched n q s)) (λ s. c .at (touched n p s)) (λ s l. rw (entry-same (n .size) p q (n .scope s) (All-map h (n .scope s) (good .known s l)))) in
     rw (price-capped n c p, price-capped n c q, e)
+
+-- costs that agree below E price plans alike
+pub price-below : (n : Net) → Sound n → (c d : Costs) → c .constant ≡ d .constant → ((j : ℕ) → j < entries n → c .at j ≡ d .at j) → (p : ℕ → ℕ) → IsPlan n p → price n c p ≡ price n d p
+price-below n good c d e h p plan =
+    let same = sumTo-same (n .parts) (λ s. d .at (touched n p s)) (λ s. c .at (touched n p s)) (λ s l. h (touched n p s) (touched-below n good p plan s l)) in
+    rw (price-capped n c p, price-capped n d p, e, same)

@@ -56,6 +56,18 @@ outlineOf net = record {
 abbrev pub stands : Network → Net
 stands net = netOf (outlineOf net) (net .sizes) (net .scopes)
 
+-- the same network with another constant
+abbrev pub withConstant : Network → ℕ → Network
+withConstant net constant = record {
+  top = net .top;
+  constant = constant;
+  vars = net .vars;
+  sizes = net .sizes;
+  functions = net .functions;
+  scopes = net .scopes;
+  starts = net .starts;
+}
+
 -- what the sizes and the scopes of a network have
 pub record Scoped (vars functions : ℕ) (sizes rows : List ℕ) : Type 0 where
   pub vars-few : vars ≤ varsMost

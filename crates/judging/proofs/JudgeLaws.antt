@@ -5,15 +5,16 @@ use mathlib.Core.Bool.{Bool, true, false, cond}
 use mathlib.Core.List.{List, [], _∷_}
 use native.Mathlib.Omega.{arith}
 use lib.Dec.{T, leb, ltb, leb→le}
-use borrow.Author.Tests.{le-leb, lt-leb}
+use borrow.Author.Tests.{leb-false, le-leb, lt-leb}
 use lib.ListN.{length, getD}
 use Rattle.costs.specs.declared.networks.Network.{Network}
 use Rattle.costs.specs.declared.networks.Outline.{Outline}
 use Rattle.costs.specs.Limits.{varsMost, sizeMost, arityMost, functionsMost, costMost, entriesMost}
-use Rattle.costs.specs.Net.{All, entries}
+use Rattle.costs.specs.Net.{Sound, All, entries}
 use Rattle.costs.specs.Tests.{between, Different, Decides}
-use Rattle.costs.specs.Networks.{inRow, scopeIn, functionStart, entriesOf, outlineOf, stands, Scoped}
+use Rattle.costs.specs.Networks.{inRow, scopeIn, functionStart, entriesOf, outlineOf, stands, withConstant, Scoped}
 use Rattle.costs.proofs.TestLaws.{is-true, is-false, by-leb, by-ltb, by-eqb, by-self, by-and, by-map, by-all, by-every, by-between, by-different}
+use Rattle.costs.proofs.RowLaws.{scoped-sound}
 use Rattle.judging.specs.declared.Judged.the-variants.{Fit, Refused}
 use Rattle.judging.specs.declared.Unfit.the-variants.{NoNetwork, TooShort}
 use Rattle.judging.specs.declared.Stretched.the-variants.{EndAt, Broken}
@@ -183,12 +184,62 @@ pub judged-fit : (net : Network) (t : List ℕ) (room many : ℕ) → TestsPass 
 unfolding judged
 judged-fit net t room many h e l = rw (is-true (isNetwork net t) (by-tests net t .finds h), le-leb (entries (stands net)) room (rw e at l), e)
 
--- so the judge lets pass what was lent
+-- the judge lets pass a network beside tables long enough
+pub network-fit : (net : Network) (t : List ℕ) (room : ℕ) → IsNetwork net t → entries (stands net) ≤ room → Fit (outlineOf net) ≡ judged net t room
+network-fit net t room h l = judged-fit net t room (entries (stands net)) (by-tests net t .says (by-network net t .finds h)) refl l
+
+-- "lent numbers are not a network": 8, exactly there
+pub judged-eight : (net : Network) (t : List ℕ) (room : ℕ) → (IsNetwork net t → ⊥) → Refused NoNetwork ≡ judged net t room
+judged-eight net t room h = judged-not net t room (λ x. h (by-network net t .says (by-tests net t .finds x)))
+
+-- "a lent table shorter than E": 7, exactly there
+pub judged-seven : (net : Network) (t : List ℕ) (room : ℕ) → IsNetwork net t → room < entries (stands net) → Refused TooShort ≡ judged net t room
+judged-seven net t room h l = judged-short net t room (entries (stands net)) (by-tests net t .says (by-network net t .finds h)) refl l
+
+module _ (net : Network) (t : List ℕ) (room : ℕ) where
+  pub eight-judged : Refused NoNetwork ≡ judged net t room → IsNetwork net t → ⊥
+  unfolding judged
+  eight-judged e h = go (isNetwork net t) (leb (entries (stands net)) room) (by-network net t .finds h) e
+    where
+      go : (a b : Bool) → T a → Refused NoNetwork ≡ cond a (cond b (Fit (outlineOf net)) (Refused TooShort)) (Refused NoNetwork) → ⊥
+      go true true t e = let z : _≡_ {A = ℕ} 0 1 = cc in omega arith
+      go true false t e = let z : _≡_ {A = ℕ} 0 1 = cc in omega arith
+      go false b t e = t
+
+  pub seven-judged : Refused TooShort ≡ judged net t room → IsNetwork net t × (room < entries (stands net))
+  unfolding judged
+  seven-judged e = go (isNetwork net t) (leb (entries (stands net)) room) (by-network net t .says) (leb-false (entries (stands net)) room) e
+    where
+      go : (a b : Bool) → (T a → IsNetwork net t) → (b ≡ false → room < entries (stands net)) → Refused TooShort ≡ cond a (cond b (Fit (outlineOf net)) (Refused TooShort)) (Refused NoNetwork)
+          → IsNetwork net t × (room < entries (stands net))
+      go true true f g e = absurd (let z : _≡_ {A = ℕ} 0 1 = cc in omega arith)
+      go true false f g e = (f tt, g refl)
+      go false b f g e = absurd (let z : _≡_ {A = ℕ} 0 1 = cc in omega arith)
+
+-- and what was lent
 pub lent-fit : (net : Network) (held : List ℕ) (room : ℕ) → Lent net held room → Fit (outlineOf net) ≡ judged net held (min (length held) room)
-lent-fit net held room l =
-    judged-fit net held (min (length held) room) (entries (stands net)) (by-tests net held .says (by-network net held .finds (l .network))) refl (omega (arith, l .held-whole, l .room-enough))
+lent-fit net held room l = network-fit net held (min (length held) room) (l .network) (omega (arith, l .held-whole, l .room-enough))
 
 pub fit-lent : (net : Network) (held : List ℕ) (room : ℕ) (o : Outline) → Fit o ≡ judged net held (min (length held) room) → Lent net held room
 fit-lent net held room o e =
     let passed = judged-passed net held (min (length held) room) o e in
     record { network = passed .network; held-whole = omega (arith, passed .roomy); room-enough = omega (arith, passed .roomy) }
+
+-- a network with another constant and other costs, at most k as well
+pub network-again : (net : Network) (t u : List ℕ) (constant : ℕ) → IsNetwork net t → constant ≤ net .top → ((j : ℕ) → j < entries (stands net) → getD u j 0 ≤ net .top) → IsNetwork (withConstant net constant) u
+network-again net t u constant h low costs = record {
+  top-some = h .top-some;
+  ready = record {
+    top-most = h .ready .top-most;
+    constant-most = low;
+    scoped = h .ready .scoped;
+    placed = h .ready .placed;
+    entries-is = refl;
+    few = h .ready .few;
+  };
+  distinct = h .distinct;
+  costs = λ j l m. costs j l;
+}
+
+pub network-sound : (net : Network) (t : List ℕ) → IsNetwork net t → Sound (stands net)
+network-sound net t h = scoped-sound (outlineOf net) (net .sizes) (net .scopes) (h .ready .scoped)

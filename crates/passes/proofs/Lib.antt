@@ -5,3 +5,4 @@ pub mod TurnLaws
 pub mod PassLength
 pub mod PassStaysBelow
 pub mod DoorLaws
+pub mod PassCalls

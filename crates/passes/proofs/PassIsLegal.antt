@@ -13,7 +13,7 @@ use Rattle.shifts.specs.declared.moves.Move.the-variants.{Project, Raise}
 use Rattle.shifts.specs.Nodes.{fixing, Fits, least}
 use Rattle.shifts.specs.Moves.{shifted, Legal, ran, LegalAll}
 use Rattle.shifts.proofs.NodeLaws.{All-among, All-both, least-gives, least-cap}
-use Rattle.shifts.proofs.ShiftsKeepPrices.{shifts-keep-prices, ran-constant, ran-constant-below}
+use Rattle.shifts.proofs.ShiftsKeepPrices.{shifts-keep-prices, ran-constant, ran-most, ran-constant-below}
 use Rattle.passes.specs.Passing.{Work, shiftBy, atValue, atScope, atVariable, pass, Led}
 
 -- what holds of either outcome of a test holds of its choice
@@ -76,6 +76,10 @@ module _ (n : Net) (good : Sound n) (live : ℕ → ℕ → Bool) (c : Costs) wh
   -- so the constant stays at most k
   pub pass-constant : c .constant ≤ n .top → pass n live c .costs .constant ≤ n .top
   pass-constant h = rw (← (pass-is-legal .leads)) (ran-constant n live c (pass n live c .shifts) h)
+
+  -- and so does each cost of the table
+  pub pass-most : (j : ℕ) → c .at j ≤ n .top → pass n live c .costs .at j ≤ n .top
+  pass-most j h = rw (← (pass-is-legal .leads)) (ran-most n live c (pass n live c .shifts) j h)
 
   -- it is at most the price of every plan that fits the node
   pub pass-constant-below : c .constant ≤ n .top → (p : ℕ → ℕ) → Fits n live p → pass n live c .costs .constant ≤ price n c p

@@ -8,9 +8,9 @@ use Rattle.answers.specs.declared.Answer.the-variants.{Done}
 use Rattle.costs.specs.declared.networks.Network.{Network}
 use Rattle.costs.specs.Net.{Costs, costsOf, entries}
 use Rattle.costs.specs.Networks.{stands}
-use Rattle.judging.specs.Judging.{judged}
+use Rattle.judging.specs.Judging.{judged, Lent}
 use Rattle.shifts.specs.declared.nodes.Node.{Node}
-use Rattle.shifts.specs.Nodes.{liveAt}
+use Rattle.shifts.specs.Nodes.{liveAt, IsNode}
 use Rattle.shifts.specs.Doors.{CostsLeft, settled, nodeLegal}
 use Rattle.passes.specs.Passing.{pass}
 
@@ -30,3 +30,8 @@ passLeaves net held work node =
     settled (judged net held (min (length held) (length work))) (nodeLegal net node)
     (record { answer = Done; costs = workedBelow (entries (stands net)) (passed net held node) work })
     zeros
+
+-- nothing stands against a pass at this node: neither 8 nor 7, nor 10, "illegal node"
+pub record MayPass (net : Network) (held work : List ℕ) (node : Node) : Type 0 where
+  pub lent : Lent net held (length work)
+  pub node-legal : IsNode (stands net) (liveAt net node)

@@ -1,3 +1,4 @@
 pub mod Passing
 pub mod Doors
+pub mod Examples
 pub mod ties

@@ -1,1 +1,2 @@
 pub mod PriceLaws
+pub mod PriceCalls

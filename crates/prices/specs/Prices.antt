@@ -1,5 +1,6 @@
 -- What `price` answers: 8, 7, 9, or the plan's price. "Beside a refusal and its place, everything returned is zero."
-use Prim.Native.Nat.{ℕ}
+use Prim.Native.Nat.{ℕ, _≤_}
+use mathlib.Core.Path.{_≡_}
 use mathlib.Core.Bool.{cond}
 use mathlib.Core.List.{List}
 use lib.Dec.{ltb, eqb}
@@ -11,10 +12,10 @@ use Rattle.answers.specs.declared.Answer.{Answer}
 use Rattle.answers.specs.declared.Answer.the-variants.{Done, BadPlan}
 use Rattle.judging.specs.declared.Judged.{Judged}
 use Rattle.judging.specs.declared.Judged.the-variants.{Fit, Refused}
-use Rattle.costs.specs.Net.{price, costsOf}
+use Rattle.costs.specs.Net.{IsPlan, entries, price, costsOf}
 use Rattle.costs.specs.Networks.{stands}
 use Rattle.costs.specs.Cheapest.{valueIn}
-use Rattle.judging.specs.Judging.{judged, refusalOf}
+use Rattle.judging.specs.Judging.{judged, refusalOf, IsNetwork}
 use Rattle.prices.specs.Plans.{firstBad}
 
 abbrev pub refusedPrice : Answer → Priced
@@ -35,3 +36,10 @@ afterJudge (Refused why) r = refusedPrice (refusalOf why)
 
 unfoldable pub priced : Network → List ℕ → Plan → Priced
 priced net t plan = afterJudge (judged net t (length t)) (planPriced net t plan)
+
+-- nothing stands against this price: neither 8 nor 7, nor 9, "plan of another length, or a value out of range"
+pub record MayPrice (net : Network) (t : List ℕ) (plan : Plan) : Type 0 where
+  pub network : IsNetwork net t
+  pub whole : entries (stands net) ≤ length t
+  pub sized : plan .len ≡ net .vars
+  pub values : IsPlan (stands net) (valueIn (plan .choice))

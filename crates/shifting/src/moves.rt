@@ -203,7 +203,7 @@ fn raise<'a>(
     }
 }
 
-// "Amounts are 1 to k"; function f, variable i in its scope, and a live value of it.
+// An amount, function f, variable i in its scope, and a live value of it.
 fn may_exchange<'a>(
     sizes: &'a [u8; VARS],
     scopes: &'a [u8; ROWS],
@@ -217,10 +217,8 @@ fn may_exchange<'a>(
     requires { ⌜ Scoped (o .vars) (o .functions) (now sizes) (now scopes) ⌝ }
     ensures { λ r. ⌜ r ≡ (between 1 (o .top) amount && joins (netOf o (now (sizes .entry)) (now (scopes .entry))) (liveIn (now (sizes .entry)) (now (node .entry))) f i a) ⌝ }
 {
-    if amount < 1 {
-        return false;
-    }
-    if o.top < amount {
+    let fair = is_amount(o.top, amount);
+    if !fair {
         return false;
     }
     if o.functions <= f {
@@ -243,13 +241,24 @@ fn may_exchange<'a>(
 fn may_raise(o: Outline, i: usize, amount: u64) -> bool
     ensures { λ r. ⌜ r ≡ (between 1 (o .top) amount && ltb i (o .vars)) ⌝ }
 {
-    if amount < 1 {
-        return false;
-    }
-    if o.top < amount {
+    let fair = is_amount(o.top, amount);
+    if !fair {
         return false;
     }
     if o.vars <= i {
+        return false;
+    }
+    true
+}
+
+// "Amounts are 1 to k"
+fn is_amount(top: u64, amount: u64) -> bool
+    ensures { λ r. ⌜ r ≡ between 1 top amount ⌝ }
+{
+    if amount < 1 {
+        return false;
+    }
+    if top < amount {
         return false;
     }
     true

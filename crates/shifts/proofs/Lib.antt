@@ -5,3 +5,5 @@ pub mod PartLaws
 pub mod MoveLaws
 pub mod DoorLaws
 pub mod OneOutcome
+pub mod KeptLaws
+pub mod ShiftCalls

@@ -12,7 +12,7 @@ use Rattle.costs.specs.Range.{sumTo}
 use Rattle.costs.specs.Net.{Net, Costs, Sound, IsPlan, All, touched, price}
 use Rattle.costs.specs.Tests.{among}
 use Rattle.costs.proofs.TestLaws.{is-true}
-use Rattle.costs.proofs.CostLaws.{shift-cap}
+use Rattle.costs.proofs.CostLaws.{minus-most, shift-cap}
 use Rattle.costs.proofs.RangeLaws.{sumTo-point, sumTo-two}
 use Rattle.costs.proofs.NetLaws.{All-map, price-capped}
 use Rattle.boxes.specs.Places.{on, moved}
@@ -125,6 +125,27 @@ shifted-constant n live (Raise i m) c h = omega arith
 pub ran-constant : (n : Net) (live : ℕ → ℕ → Bool) (c : Costs) (xs : List Move) → c .constant ≤ n .top → ran n live c xs .constant ≤ n .top
 ran-constant n live c [] h = h
 ran-constant n live c (x ∷ xs) h = ran-constant n live (shifted n live x c) xs (shifted-constant n live x c h)
+
+-- and so does each cost of the table
+on-most : (top : ℕ) (A : ℕ → Bool) (change t : ℕ → ℕ) (j : ℕ) → (t j ≤ top → change (t j) ≤ top) → t j ≤ top → on A change t j ≤ top
+on-most top A change t j f h = go (A j)
+  where
+    go : (b : Bool) → cond b (change (t j)) (t j) ≤ top
+    go true = f h
+    go false = h
+
+moved-most : (top : ℕ) (A B : ℕ → Bool) (m : ℕ) (t : ℕ → ℕ) (j : ℕ) → t j ≤ top → moved top A B m t j ≤ top
+moved-most top A B m t j h = on-most top B (λ x. plus top x m) (on A (λ x. minus top x m) t) j (λ l. omega arith) (on-most top A (λ x. minus top x m) t j (minus-most top (t j) m) h)
+
+pub shifted-most : (n : Net) (live : ℕ → ℕ → Bool) (x : Move) (c : Costs) (j : ℕ) → c .at j ≤ n .top → shifted n live x c .at j ≤ n .top
+unfolding shifted
+shifted-most n live (Project f i a m) c j h = moved-most (n .top) (hit n (fixing live i a) (n .vars + f)) (hit n (fixing live i a) i) m (c .at) j h
+shifted-most n live (Extend f i a m) c j h = moved-most (n .top) (hit n (fixing live i a) i) (hit n (fixing live i a) (n .vars + f)) m (c .at) j h
+shifted-most n live (Raise i m) c j h = on-most (n .top) (hit n live i) (λ x. minus (n .top) x m) (c .at) j (minus-most (n .top) (c .at j) m) h
+
+pub ran-most : (n : Net) (live : ℕ → ℕ → Bool) (c : Costs) (xs : List Move) (j : ℕ) → c .at j ≤ n .top → ran n live c xs .at j ≤ n .top
+ran-most n live c [] j h = h
+ran-most n live c (x ∷ xs) j h = ran-most n live (shifted n live x c) xs j (shifted-most n live x c j h)
 
 -- a constant is at most the price of each plan, and so is the constant that legal shifts lead to, of each plan that fits
 pub constant-below : (n : Net) (c : Costs) (p : ℕ → ℕ) → c .constant ≤ n .top → c .constant ≤ price n c p

@@ -1,4 +1,5 @@
 pub mod Nodes
 pub mod Moves
 pub mod Doors
+pub mod Kept
 pub mod ties

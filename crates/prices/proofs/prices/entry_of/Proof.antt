@@ -42,6 +42,19 @@ byte-at-requires c κs =
     let known : row (c .before .before .loop .j + 1) < s .vars = met (λ v. v < s .vars) row (c .before .before .loop .j) few (omega (arith, c .before .before .before .row-at .ensures)) (r .known (s .f) (omega arith)) in
     omega (arith, c .row-at2 .ensures)
 
+-- what the entry is, before that it fits
+loop-again : tie.Need-loop-again Inv-loop μ-loop
+loop-again c =
+    let s = c .before .before .before .before .before .before .args in
+    let r = c .before .before .before .before .before .before .pre .0 .0 in
+    let row = inRow (s .scopes .now) (s .f) in
+    let few : row 0 ≤ 3 = r .arity-most (s .f) (omega arith) in
+    let known : row (c .before .before .before .before .loop .j + 1) < s .vars = met (λ v. v < s .vars) row (c .before .before .before .before .loop .j) few (omega (arith, c .before .before .before .before .before .row-at .ensures)) (r .known (s .f) (omega arith)) in (
+      omega arith,
+      entry-next (λ v. getD (s .sizes .now) v 0) (λ v. getD (s .choice .now) v 0) row (c .before .before .before .before .loop .j) (c .before .before .before .before .loop .entry) (c .before .byte-at .result) (c .byte-at2 .result) (c .before .before .row-at2 .result) _ few (omega (arith, c .before .before .before .before .before .row-at .ensures)) (c .before .before .row-at2 .ensures) (c .before .byte-at .ensures) (c .byte-at2 .ensures) (c .before .before .before .before .loop .inv .1),
+      digit-more sizeMost (c .before .before .before .before .loop .j) (c .before .before .before .before .loop .entry) (c .before .byte-at .result) (c .byte-at2 .result) (c .before .before .before .before .loop .inv .2) (rw (c .before .byte-at .ensures, c .before .before .row-at2 .ensures) (r .small (row (c .before .before .before .before .loop .j + 1)) known)) (rw (c .before .byte-at .ensures, c .byte-at2 .ensures, c .before .before .row-at2 .ensures) (c .before .before .before .before .before .before .pre .1 (row (c .before .before .before .before .loop .j + 1)) known)),
+    )
+
 mul-entry : tie.Need-mul-entry Inv-loop μ-loop
 mul-entry c =
     let s = c .before .before .before .before .before .args in
@@ -77,20 +90,6 @@ add-j c = search needs
 
 loop-less : tie.Need-loop-less Inv-loop μ-loop
 loop-less c = search needs
-
-loop-again : tie.Need-loop-again Inv-loop μ-loop
-loop-again c =
-    let s = c .before .before .before .before .before .before .args in
-    let r = c .before .before .before .before .before .before .pre .0 .0 in
-    let row = inRow (s .scopes .now) (s .f) in
-    let few : row 0 ≤ 3 = r .arity-most (s .f) (omega arith) in
-    let known : row (c .before .before .before .before .loop .j + 1) < s .vars = met (λ v. v < s .vars) row (c .before .before .before .before .loop .j) few (omega (arith, c .before .before .before .before .before .row-at .ensures)) (r .known (s .f) (omega arith)) in
-    let small : c .before .byte-at .result ≤ sizeMost = rw (c .before .byte-at .ensures, c .before .before .row-at2 .ensures) (r .small (row (c .before .before .before .before .loop .j + 1)) known) in
-    let chosen : c .byte-at2 .result < c .before .byte-at .result = rw (c .before .byte-at .ensures, c .byte-at2 .ensures, c .before .before .row-at2 .ensures) (c .before .before .before .before .before .before .pre .1 (row (c .before .before .before .before .loop .j + 1)) known) in (
-      omega arith,
-      entry-next (λ v. getD (s .sizes .now) v 0) (λ v. getD (s .choice .now) v 0) row (c .before .before .before .before .loop .j) (c .before .before .before .before .loop .entry) (c .before .byte-at .result) (c .byte-at2 .result) (c .before .before .row-at2 .result) _ few (omega (arith, c .before .before .before .before .before .row-at .ensures)) (c .before .before .row-at2 .ensures) (c .before .byte-at .ensures) (c .byte-at2 .ensures) (c .before .before .before .before .loop .inv .1),
-      digit-more sizeMost (c .before .before .before .before .loop .j) (c .before .before .before .before .loop .entry) (c .before .byte-at .result) (c .byte-at2 .result) (c .before .before .before .before .loop .inv .2) small chosen,
-    )
 
 returns : tie.Need-returns Inv-loop μ-loop
 returns c =
