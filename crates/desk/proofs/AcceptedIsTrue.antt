@@ -6,8 +6,8 @@ use mathlib.Core.List.{List}
 use Rattle.costs.specs.declared.networks.Network.{Network}
 use Rattle.answers.specs.declared.Answer.the-variants.{Done}
 use Rattle.costs.specs.Net.{costsOf}
-use Rattle.costs.specs.Networks.{outlineOf, stands}
-use Rattle.costs.proofs.RowLaws.{scoped-sound}
+use Rattle.costs.specs.Networks.{stands}
+use Rattle.judging.proofs.JudgeLaws.{network-sound}
 use Rattle.records.specs.Words.{wordAt}
 use Rattle.records.specs.Records.{told}
 use Rattle.records.proofs.KeptRules.{kept-true}
@@ -21,4 +21,4 @@ pub accepted-true : (net : Network) (held : List ℕ) (room : ℕ) (bytes : List
     ⊎ ((wordAt bytes 2 ≡ 1) × NonePayable (stands net) (costsOf (net .constant) held))
 accepted-true net held room bytes e =
     let h = accepted-kept net held room bytes e in
-    kept-true (stands net) (scoped-sound (outlineOf net) (net .sizes) (net .scopes) (h .0 .network .ready .scoped)) (costsOf (net .constant) held) (wordAt bytes) (h .1 .words) (h .1 .rules)
+    kept-true (stands net) (network-sound net held (h .0 .network)) (costsOf (net .constant) held) (wordAt bytes) (h .1 .words) (h .1 .rules)

@@ -1,8 +1,8 @@
 -- The desk accepts exactly the records that keep the rules. Assumes nothing.
 use Prim.Native.Nat.{ℕ, zero, suc, _+_, _*_, _/_, _%_, _≤_, _<_, min}
-use mathlib.Core.Path.{_≡_, refl, sym, _∙_}
+use mathlib.Core.Path.{_≡_, refl, sym, ap, _∙_}
 use mathlib.Core.Bool.{true, cond, not}
-use mathlib.Core.Logic.{inl, inr, ⊎-elim}
+use mathlib.Core.Logic.{inl, inr, ⊎-elim, _≢_}
 use mathlib.Core.List.{List, [], _∷_}
 use mathlib.Core.Option.{none}
 use native.Mathlib.Omega.{arith}
@@ -10,7 +10,9 @@ use lib.Dec.{leb, ltb, eqb}
 use lib.ListN.{length}
 use borrow.Author.Tests.{lt-ltb, ltb-true, not-false}
 use Rattle.costs.specs.declared.networks.Network.{Network}
+use Rattle.answers.specs.declared.Answer.{Answer}
 use Rattle.answers.specs.declared.Answer.the-variants.{Done}
+use Rattle.answers.specs.Answers.{numberOf}
 use Rattle.costs.specs.Net.{Net, Costs, IsPlan, costsOf, price}
 use Rattle.costs.specs.Networks.{stands}
 use Rattle.judging.specs.declared.Judged.{Judged}
@@ -108,7 +110,7 @@ module _ (n : Net) (held : Costs) (word : ℕ → ℕ) (many : ℕ) where
       (by-rule (leb (suc (suc v)) 1) 2 _ (by-leb (suc (suc v)) 1) (by-self _))))
 
   -- no fault in the words exactly where they keep the rules
-  pub by-record : Decides (isNowhere (recordFault n held word many)) (KeepsRules n held word many)
+  by-record : Decides (isNowhere (recordFault n held word many)) (KeepsRules n held word many)
   unfolding recordFault headerRules planRules
   by-record = by-verdict (word 2) refl
 
@@ -128,26 +130,31 @@ unfolding isNowhere
 by-done Nowhere = record { says = λ t. refl; finds = λ e. tt }
 by-done (At w) = record { says = λ t. absurd t; finds = λ e. absurd (let z : _≡_ {A = ℕ} 0 1 = cc in omega arith) }
 
+-- an answer that is not the judge's: a network and room enough were lent
+module _ (net : Network) (held : List ℕ) (room : ℕ) (bytes : List ℕ) where
+  abbrev deserved : Answer
+  deserved = answerTo (bytesFault (stands net) (costsOf (net .constant) held) bytes)
+
+  by-judge : (j : Judged) → judged net held (min (length held) room) ≡ j → (a : Answer) → afterJudge j deserved ≡ a → numberOf a ≢ 7 → numberOf a ≢ 8 → Lent net held room
+  by-judge (Fit o) q a e not7 not8 = fit-lent net held room o (sym q)
+  by-judge (Refused NoNetwork) q a e not7 not8 = absurd (not8 (sym (ap numberOf e)))
+  by-judge (Refused TooShort) q a e not7 not8 = absurd (not7 (sym (ap numberOf e)))
+
+  pub answer-lent : (a : Answer) → checked net held room bytes ≡ a → numberOf a ≢ 7 → numberOf a ≢ 8 → Lent net held room
+  unfolding checked
+  answer-lent a e not7 not8 = by-judge (judged net held (min (length held) room)) refl a e not7 not8
+
+  -- then the answer is what the record's bytes deserve
+  pub lent-checked : Lent net held room → checked net held room bytes ≡ deserved
+  unfolding checked
+  lent-checked l = rw (← (lent-fit net held room l))
+
 -- demand 3, both halves: the desk accepts exactly the records that keep the rules
 pub accepted-kept : (net : Network) (held : List ℕ) (room : ℕ) (bytes : List ℕ) → checked net held room bytes ≡ Done
     → Lent net held room × KeptBy (stands net) (costsOf (net .constant) held) bytes
-unfolding checked
-accepted-kept net held room bytes e = go (judged net held (min (length held) room)) refl e
-  where
-    go : (j : Judged) → judged net held (min (length held) room) ≡ j → afterJudge j (answerTo (bytesFault (stands net) (costsOf (net .constant) held) bytes)) ≡ Done
-        → Lent net held room × KeptBy (stands net) (costsOf (net .constant) held) bytes
-    go (Fit o) q e = (
-      fit-lent net held room o (sym q),
-      by-bytes (stands net) (costsOf (net .constant) held) bytes .says (by-done (bytesFault (stands net) (costsOf (net .constant) held) bytes) .finds e),
-    )
-    go (Refused NoNetwork) q e = absurd (let z : _≡_ {A = ℕ} 0 1 = cc in omega arith)
-    go (Refused TooShort) q e = absurd (let z : _≡_ {A = ℕ} 0 1 = cc in omega arith)
-
--- lent room enough, the answer is what the record's bytes deserve
-pub lent-checked : (net : Network) (held : List ℕ) (room : ℕ) (bytes : List ℕ) → Lent net held room
-    → checked net held room bytes ≡ answerTo (bytesFault (stands net) (costsOf (net .constant) held) bytes)
-unfolding checked
-lent-checked net held room bytes l = rw (← (lent-fit net held room l))
+accepted-kept net held room bytes e =
+    let l = answer-lent net held room bytes Done e (λ z. omega (arith, z)) (λ z. omega (arith, z)) in
+    (l, by-bytes (stands net) (costsOf (net .constant) held) bytes .says (by-done (bytesFault (stands net) (costsOf (net .constant) held) bytes) .finds (sym (lent-checked net held room bytes l) ∙ e)))
 
 pub kept-accepted : (net : Network) (held : List ℕ) (room : ℕ) (bytes : List ℕ) → Lent net held room → KeptBy (stands net) (costsOf (net .constant) held) bytes
     → checked net held room bytes ≡ Done

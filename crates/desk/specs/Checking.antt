@@ -1,6 +1,8 @@
 -- What the check of a record answers.
 use Prim.Native.Nat.{ℕ, _+_, _*_, _/_, _%_, min}
-use mathlib.Core.Bool.{Bool, cond, not, _&&_}
+use mathlib.Core.Path.{_≡_}
+use mathlib.Core.Bool.{Bool, true, false, cond, not, _&&_}
+use mathlib.Core.Logic.{_⊎_}
 use mathlib.Core.List.{List, [], _∷_, _++_}
 use mathlib.Core.Option.{none}
 use lib.Dec.{leb, ltb, eqb}
@@ -19,8 +21,8 @@ use Rattle.records.specs.Trees.{root}
 use Rattle.records.specs.Records.{headerWords, told, claims}
 use Rattle.spelling.specs.declared.faults.Fault.{Fault}
 use Rattle.spelling.specs.declared.faults.Fault.the-variants.{At}
-use Rattle.spelling.specs.Spelling.{stepsFault}
-use Rattle.desk.specs.Faults.{Rule, rule, faultIn, answerTo}
+use Rattle.spelling.specs.Spelling.{stepsFault, StepsBreak}
+use Rattle.desk.specs.Faults.{Rule, rule, faultIn, answerTo, AllKept, FirstBroken}
 
 -- "edition 1; N; verdict (0 cheapest, 1 none); claimed cost c (below k, or equal to k for verdict 1)"
 abbrev pub claimRules : ℕ → ℕ → (ℕ → ℕ) → List Rule
@@ -74,6 +76,17 @@ wholeWords size = leb (headerWords * wordBytes) size && eqb (size % wordBytes) 0
 -- "a length under 64 or not a multiple of 8 gives 0"
 unfoldable pub bytesFault : Net → Costs → List ℕ → Fault
 bytesFault n held bytes = cond (wholeWords (length bytes)) (recordFault n held (wordAt bytes) (length bytes / wordBytes)) (At 0)
+
+-- the words of a record break their first rule at word j: one of those before the steps, or all these are kept and the steps fail there
+abbrev pub RecordBreaksAt : Net → Costs → (ℕ → ℕ) → ℕ → ℕ → Type 0
+RecordBreaksAt n held word many j =
+    FirstBroken (rulesOf n held word many) j
+    ⊎ (AllKept (rulesOf n held word many) × StepsBreak (claims n held word) (stepAt word) (word 7) (headerWords + countOf (n .vars) word) (root n ∷ []) none j)
+
+-- and so do bytes: their length is none, "gives 0", or the words break it there
+abbrev pub BreaksAt : Net → Costs → List ℕ → ℕ → Type 0
+BreaksAt n held bytes j =
+    ((wholeWords (length bytes) ≡ false) × (j ≡ 0)) ⊎ ((wholeWords (length bytes) ≡ true) × RecordBreaksAt n held (wordAt bytes) (length bytes / wordBytes) j)
 
 abbrev pub afterJudge : Judged → Answer → Answer
 afterJudge (Fit o) a = a

@@ -7,6 +7,7 @@ pub mod WritingEngines
 pub mod PassSpelling
 pub mod WritingLaws
 pub mod SearchSize
+pub mod SmallWords
 pub mod ResultLaws
 pub mod ProgressLaws
 pub mod TellingLaws

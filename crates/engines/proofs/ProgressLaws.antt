@@ -16,7 +16,7 @@ use Rattle.recorder.specs.declared.Spot.{Spot}
 use Rattle.costs.specs.Range.{listTo}
 use Rattle.recorder.specs.ties.Splicing.{Adds, Behind, headerBytes, Written}
 use Rattle.engines.specs.ties.Progressing.{Meets, beginning}
-use Rattle.recorder.proofs.ListLaws.{listTo-same}
+use Rattle.costs.proofs.ListLaws.{listTo-same}
 use Rattle.costs.specs.Limits.{varsMost}
 
 begin-written : (out : List ℕ) → Written out (record { at = headerBytes; full = ltb (length out) headerBytes }) []

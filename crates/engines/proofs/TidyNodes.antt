@@ -8,7 +8,7 @@ use Rattle.costs.proofs.TestLaws.{not-so}
 use Rattle.passes.proofs.PassIsLegal.{pass-constant-below}
 use Rattle.engines.specs.Nodes.{planOf, HasLive, Tidy, OneLive}
 use Rattle.engines.specs.Rightness.{Found, Cut}
-use Rattle.recorder.proofs.ListLaws.{list-length, list-at}
+use Rattle.costs.proofs.ListLaws.{list-length, list-at}
 use native.Mathlib.Omega.{arith}
 use lib.Dec.{T, eqb, eqb→eq, eqb-refl, ltb→lt, lt→ltb}
 use Rattle.costs.specs.Range.{firstTo}

@@ -1,2 +1,1 @@
-pub mod ListLaws
 pub mod SpliceLaws

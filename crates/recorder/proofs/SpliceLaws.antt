@@ -20,7 +20,7 @@ use Rattle.records.proofs.WordLaws.{bytesTo-many, bytesOf-many}
 use Rattle.records.proofs.StepLaws.{words-many, spell-many}
 use Rattle.recorder.specs.declared.Spot.{Spot}
 use Rattle.costs.specs.Range.{listTo}
-use Rattle.recorder.proofs.ListLaws.{list-length}
+use Rattle.costs.proofs.ListLaws.{list-length}
 use Rattle.recorder.specs.ties.Splicing.{spliced, headerBytes, stepBytes, HoldsSteps, TooLong, Written, Adds, verdictBit, valuesOf, Finished}
 
 pub bytesOf-append : (xs ys : List ℕ) → bytesOf (xs ++ ys) ≡ bytesOf xs ++ bytesOf ys

@@ -1,34 +1,16 @@
--- A step is what its five words spell, and what five words spell, kind by kind. Assumes nothing.
+-- How many words steps are, and what five words spell, kind by kind. Assumes nothing.
 use Prim.Native.Nat.{ℕ, _*_}
 use mathlib.Core.Path.{_≡_, refl}
 use mathlib.Core.Bool.{Bool}
-use mathlib.Core.List.{List, [], _∷_, _++_}
+use mathlib.Core.List.{List, [], _∷_}
 use native.Mathlib.Omega.{arith}
 use borrow.Author.Tests.{eq-eqb, ne-eqb}
 use lib.ListN.{length, length-append}
 use Rattle.shifts.specs.declared.moves.Move.the-variants.{Project, Extend, Raise}
 use Rattle.records.specs.declared.steps.Step.{Step}
 use Rattle.records.specs.declared.steps.Step.the-variants.{Branch, Shift, Close}
-use Rattle.records.specs.declared.steps.Spelt.{Spelt}
 use Rattle.records.specs.declared.steps.Spelt.the-variants.{One, Nothing}
 use Rattle.records.specs.Steps.{wordsOf, stepWords, spell, allZero, speltIf, stepOf}
-
--- what a list of five words spells
-abbrev pub stepIn : List ℕ → Spelt
-stepIn [] = Nothing
-stepIn (k ∷ []) = Nothing
-stepIn (k ∷ f ∷ []) = Nothing
-stepIn (k ∷ f ∷ i ∷ []) = Nothing
-stepIn (k ∷ f ∷ i ∷ a ∷ []) = Nothing
-stepIn (k ∷ f ∷ i ∷ a ∷ m ∷ rest) = stepOf k f i a m
-
-pub words-spell : (s : Step) (rest : List ℕ) → stepIn (wordsOf s ++ rest) ≡ One s
-unfolding stepOf
-words-spell (Branch i) rest = refl
-words-spell (Shift (Project f i a m)) rest = refl
-words-spell (Shift (Extend f i a m)) rest = refl
-words-spell (Shift (Raise i m)) rest = refl
-words-spell Close rest = refl
 
 pub words-many : (s : Step) → length (wordsOf s) ≡ stepWords
 words-many (Branch i) = refl

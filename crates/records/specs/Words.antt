@@ -16,6 +16,10 @@ wordOf byte = sumTo wordBytes (λ j. byte j * 256 ^ j)
 unfoldable pub wordAt : List ℕ → ℕ → ℕ
 wordAt bytes w = wordOf (λ j. getD bytes (w * wordBytes + j) 0)
 
+-- word w of a list, 0 past its end
+abbrev pub tells : List ℕ → ℕ → ℕ
+tells words w = getD words w 0
+
 -- the n lowest bytes of a number
 abbrev pub bytesTo : ℕ → ℕ → List ℕ
 bytesTo zero x = []

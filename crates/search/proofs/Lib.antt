@@ -1,2 +1,4 @@
 pub mod SearchDoorLaws
+pub mod WholeSearch
 pub mod SearchIsRight
+pub mod RecordLeft

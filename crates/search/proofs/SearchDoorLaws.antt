@@ -60,7 +60,7 @@ module _ (o : Outline) (sizes rows starts held : List ℕ) (ready : Ready o size
     fixes = fixes-none sizes;
   }
 
-  pub searched-answers : 1 ≤ o .top → (limit : ℕ) → searchedIn o sizes rows held limit .ended ≡ Done
+  searched-answers : 1 ≤ o .top → (limit : ℕ) → searchedIn o sizes rows held limit .ended ≡ Done
       → RightAnswer (netOf o sizes rows) (costsOf (o .constant) held) (searchedIn o sizes rows held limit .plan) (searchedIn o sizes rows held limit .best)
   unfolding searchedIn
   searched-answers some limit ended = first-answer (netOf o sizes rows) (scoped-sound o sizes rows (ready .scoped)) (costsOf (o .constant) held) (ready .constant-most) some (budget limit) ended

@@ -21,7 +21,7 @@ use Rattle.engines.specs.Engines.{closes, finds, opens, State, Engine, Gate, ea
 use Rattle.engines.specs.Nodes.{planOf}
 use Rattle.visiting.specs.FirstSearch.{free, firstLook}
 use Rattle.visiting.specs.ties.Visiting.{prefix}
-use Rattle.recorder.proofs.ListLaws.{listTo-same}
+use Rattle.costs.proofs.ListLaws.{listTo-same}
 
 -- choices past k do not matter
 pub prefix-same : (n : Net) (p q : ℕ → ℕ) (k : ℕ) → ((v : ℕ) → v < k → p v ≡ q v) → prefix n p k ≡ prefix n q k

@@ -9,7 +9,7 @@ use Rattle.passes.specs.Passing.{pass}
 use Rattle.records.specs.declared.steps.Step.the-variants.{Shift, Close}
 use Rattle.records.specs.Trees.{TreeNode}
 use Rattle.engines.specs.Nodes.{planOf}
-use Rattle.engines.specs.Engines.{Look, closes, finds, opens, Engine}
+use Rattle.engines.specs.Engines.{Look, closes, finds, opens, State, Engine, never, searched}
 
 -- a variable that is not fixed
 abbrev pub free : TreeNode → ℕ → Bool
@@ -26,3 +26,11 @@ firstLook n held d b =
 
 abbrev pub firstEngine : Net → Costs → Engine
 firstEngine n held = record { net = n; look = firstLook n held }
+
+-- the search that no budget ends
+abbrev pub wholeSearch : Net → Costs → State
+wholeSearch n held = searched (firstEngine n held) never
+
+-- "more nodes needed than the budget": how many are needed
+abbrev pub nodesNeeded : Net → Costs → ℕ
+nodesNeeded n held = wholeSearch n held .count

@@ -1,4 +1,6 @@
-use mathlib.Core.Path.{_∙_}
+use Prim.Native.Nat.{ℕ}
+use mathlib.Core.Path.{ap, _∙_}
+use lib.ListN.{replicate}
 use borrow.Author.Needs.{needs}
 use Rattle.desk.proofs.check.Statement.{statement}
 use Rattle.desk.proofs.check.Tie as tie
@@ -13,7 +15,7 @@ same-length : tie.Need-same-length
 same-length c = search needs
 
 returns : tie.Need-returns
-returns c = (c .before .before .before .before .before .before .answered .ensures, c .before .before .clear .ensures ∙ rw (c .before .before .before .before .before .before .answered .kept .0))
+returns c = (c .before .before .before .before .before .before .answered .ensures, c .before .before .clear .ensures ∙ ap (λ (n : ℕ). replicate n 0) (c .before .before .before .before .before .before .answered .kept .0))
 
 pub check-spec : {M : Type 1} → statement M
 check-spec = tie.close (tie.spec answered-requires clear-requires same-length returns)

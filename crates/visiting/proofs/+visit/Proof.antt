@@ -75,7 +75,8 @@ visit-look-requires t c κs =
     let g = c .before .before .before .before .before .before .before .before .before .before .before .before in
     let s = g .args in
     let h = g .pre .1 in
-    (h, omega (arith, g .fits .limit))
+    let within : s .from .nodes < s .limit = omega arith in
+    (h, omega (arith, within, g .fits .limit))
 
 visit-same-length : (t : ℕ) → visit-lts.Need-same-length (visit-claims t) (visit-at t) visit.Post visit-Inv-loop visit-μ-loop
 visit-same-length t c = search needs
