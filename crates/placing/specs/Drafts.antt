@@ -6,6 +6,7 @@ use Rattle.costs.specs.Limits.{rowPlaces}
 use Rattle.costs.specs.Cost.{plus}
 use Rattle.costs.specs.Range.{sumTo}
 use Rattle.costs.specs.declared.networks.Network.{Network}
+use Rattle.costs.specs.Networks.{withConstant}
 
 -- the network so far, and the E entries of its table
 pub record Draft : Type 0 where
@@ -24,17 +25,6 @@ unaryStart sizes x = sumTo x (λ v. getD sizes v 0)
 -- a table with so many costs ⊕-added from `start` on
 abbrev pub addedAt : ℕ → ℕ → ℕ → List ℕ → List ℕ → List ℕ
 addedAt top start many cs table = take start table ++ (sums top (take many (drop start table)) cs ++ drop (start + many) table)
-
-abbrev pub withConstant : Network → ℕ → Network
-withConstant net constant = record {
-  top = net .top;
-  constant = constant;
-  vars = net .vars;
-  sizes = net .sizes;
-  functions = net .functions;
-  scopes = net .scopes;
-  starts = net .starts;
-}
 
 -- function f's row: its arity, then its variables
 abbrev pub rowSet : List ℕ → ℕ → List ℕ → List ℕ

@@ -64,6 +64,15 @@ listing-cells top ds (suc left) cells text at out next e h =
     let r = listing-cells top ds left (set cells (entry .0) c) text (cost .1) out next (cost .3) (all-set (Cell top) cells (entry .0) c h (inr (omega arith))) in
     (r .0 ∙ length-set cells (entry .0) c, r .1)
 
+pub listing-long : (top : ℕ) (ds : List ℕ) (left : ℕ) (cells : List ℕ) (text : Text) (at : ℕ) (out : List ℕ) (next : ℕ) → got out next ≡ listing top ds left cells text at → length out ≡ length cells
+unfolding listing
+listing-long top ds zero cells text at out next e = ap length (same-value _ _ _ _ e)
+listing-long top ds (suc left) cells text at out next e =
+    let entry = and-then _ _ _ _ e in
+    let cost = and-then _ _ _ _ (entry .3) in
+    let c = min top (cost .0 .value) in
+    listing-long top ds left (set cells (entry .0) c) text (cost .1) out next (cost .3) ∙ length-set cells (entry .0) c
+
 settled-one : (top default c : ℕ) → default ≤ top → Cell top c → settled default c ≤ top
 unfolding settled
 settled-one top default c h (inl e) = rw (eq-eqb c unlisted e) h
@@ -94,7 +103,7 @@ listed-costed top ds most text at cs next e =
       capped = settled-capped top (min top (default .0 .value)) (cells .0) (omega arith) (r .1);
     })
 
-gap-capped : (top : ℕ) (mode : Mode) (base g : ℕ) → gapCost top mode base g ≤ top
+pub gap-capped : (top : ℕ) (mode : Mode) (base g : ℕ) → gapCost top mode base g ≤ top
 unfolding gapCost
 gap-capped top Hard base g = go (eqb g 0)
   where

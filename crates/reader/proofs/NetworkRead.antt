@@ -7,33 +7,30 @@ use mathlib.Core.List.{List, [], _∷_, _++_}
 use native.Mathlib.Nat.{mul-one}
 use native.Mathlib.Omega.{arith}
 use native.Mathlib.Decide.{ℕ-discrete, decLt}
-use lib.Dec.{T, ltb, leb, lt→ltb}
+use lib.Dec.{T, ltb, lt→ltb}
 use lib.ListN.{length, getD, take, drop, set, replicate, length-append, length-set, length-take, length-drop, length-replicate, List·getD-append}
 use lib.Seq.{getD-set-same, getD-set-other}
 use Rattle.costs.specs.Limits.{varsMost, arityMost, rowPlaces, functionsMost, entriesMost}
 use Rattle.costs.specs.Net.{All, tuples, start, entries}
 use Rattle.costs.specs.Networks.{inRow, scopeIn, stands}
 use Rattle.costs.specs.Tests.{different}
-use Rattle.judging.specs.Judging.{isNetwork, IsNetwork}
+use Rattle.judging.specs.Judging.{IsNetwork}
 use Rattle.costs.specs.declared.networks.Network.{Network}
-use Rattle.answers.specs.declared.Answer.the-variants.{LongText, ShortTable}
-use Rattle.costs.proofs.TestLaws.{is-true, by-different}
+use Rattle.costs.proofs.TestLaws.{by-different}
 use Rattle.costs.proofs.RangeLaws.{sumTo-same, sumTo-mono}
 use Rattle.costs.proofs.NetLaws.{All-append, All-at}
 use Rattle.costs.proofs.RowLaws.{scope-unary, scope-function}
-use Rattle.judging.proofs.JudgeLaws.{by-network}
-use Rattle.tokens.specs.Tokens.{Text, textOf}
+use Rattle.tokens.specs.Tokens.{Text}
 use Rattle.tokens.specs.Steps.{Got, got, refused}
 use Rattle.tokens.proofs.StepLaws.{and-then, same-value}
 use Rattle.tokens.proofs.NumberLaws.{in-range}
-use Rattle.reader.specs.ReaderLimits.{textMost}
 use Rattle.headings.specs.Domains.{Sized}
 use Rattle.scopes.specs.Scopes.{scopeSizes}
 use Rattle.stretches.specs.Sizes.{product}
 use Rattle.placing.specs.Drafts.{Draft, sums, unaryStart, addedAt, withFunction, rowSet, put}
 use Rattle.functions.specs.Functions.{placed, function, functions}
 use Rattle.function_costs.specs.FunctionCosts.{costs}
-use Rattle.reader.specs.Reading.{started, rest, body, network, fitted, reading, tableAfter}
+use Rattle.reader.specs.Reading.{started, rest, body, network}
 use Rattle.headings.specs.declared.headers.Head.{Head}
 use Rattle.headings.specs.ties.Ranges.{InRange, Good}
 use Rattle.headings.proofs.HeaderLaws.{header-range}
@@ -41,6 +38,7 @@ use Rattle.headings.proofs.DomainLaws.{domains-good, none-good, total-most}
 use Rattle.scopes.proofs.ScopeLaws.{scope-known}
 use Rattle.placing.proofs.StretchLaws.{sums-length}
 use Rattle.reader.specs.ties.Fine.{Costed, Fine}
+use Rattle.reader.proofs.OneLayout.{product-tuples}
 use Rattle.reader.proofs.CostsRead.{costs-costed, capped-sums, all-take, all-drop, all-replicate}
 
 -- ---- rows
@@ -109,7 +107,7 @@ scope-is row xs a b c d h l = rw (a, b, c, d) (go xs h l)
     go (x ∷ y ∷ z ∷ []) h l = refl
     go (x ∷ y ∷ z ∷ w ∷ ws) h l = absurd (omega arith)
 
-scope-here : (rows : List ℕ) (f : ℕ) (xs : List ℕ) → length rows ≡ functionsMost * rowPlaces → f < functionsMost → 2 ≤ length xs → length xs ≤ arityMost → scopeIn (inRow (rowSet rows f xs) f) ≡ xs
+pub scope-here : (rows : List ℕ) (f : ℕ) (xs : List ℕ) → length rows ≡ functionsMost * rowPlaces → f < functionsMost → 2 ≤ length xs → length xs ≤ arityMost → scopeIn (inRow (rowSet rows f xs) f) ≡ xs
 scope-here rows f xs long few h l =
     scope-is (inRow (rowSet rows f xs) f) xs (row-arity rows f xs long few) (row-first rows f xs long few) (row-second rows f xs long few) (row-third rows f xs long few) h l
 
@@ -118,13 +116,8 @@ scope-other rows f xs g q =
     scope-same (inRow (rowSet rows f xs) g) (inRow rows g) (row-other rows f xs g 0 q (omega arith)) (row-other rows f xs g 1 q (omega arith)) (row-other rows f xs g 2 q (omega arith)) (row-other rows f xs g 3 q (omega arith))
 
 -- ---- stretches, where a function is added
-product-tuples : (sizes xs : List ℕ) → product (scopeSizes sizes xs) ≡ tuples (λ v. getD sizes v 0) xs
-unfolding product
-product-tuples sizes [] = refl
-product-tuples sizes (x ∷ xs) = ap (λ (n : ℕ). getD sizes x 0 * n) (product-tuples sizes xs)
-
 module _ (net : Network) (xs : List ℕ) (at : ℕ) where
-  part-same : (r : ℕ) → r < net .vars + net .functions → stands (withFunction net xs at) .scope r ≡ stands net .scope r
+  pub part-same : (r : ℕ) → r < net .vars + net .functions → stands (withFunction net xs at) .scope r ≡ stands net .scope r
   part-same r l = go (ltb r (net .vars)) (lt→ltb r (net .vars))
     where
       go : (b : Bool) → (r < net .vars → T b) → cond b (r ∷ []) (scopeIn (inRow (rowSet (net .scopes) (net .functions) xs) (r - net .vars))) ≡ cond b (r ∷ []) (scopeIn (inRow (net .scopes) (r - net .vars)))
@@ -134,16 +127,19 @@ module _ (net : Network) (xs : List ℕ) (at : ℕ) where
         | no q ↦ scope-other (net .scopes) (net .functions) xs (r - net .vars) (λ e. omega arith)
       ]
 
-  start-same : (s : ℕ) → s ≤ net .vars + net .functions → start (stands (withFunction net xs at)) s ≡ start (stands net) s
+  pub start-same : (s : ℕ) → s ≤ net .vars + net .functions → start (stands (withFunction net xs at)) s ≡ start (stands net) s
   start-same s h =
       sumTo-same s (λ r. tuples (stands net .size) (stands net .scope r)) (λ r. tuples (stands net .size) (stands (withFunction net xs at) .scope r))
       (λ r l. ap (tuples (stands net .size)) (part-same r (omega arith)))
 
--- where the unary stretches end
+-- where the unary stretches begin, and where they end
+pub unary-start : (net : Network) (x : ℕ) → x ≤ net .vars → start (stands net) x ≡ unaryStart (net .sizes) x
+unary-start net x h =
+    sumTo-same x (λ v. getD (net .sizes) v 0) (λ r. tuples (stands net .size) (stands net .scope r))
+    (λ v l. rw (scope-unary (net .vars) (net .scopes) v (omega arith)) (mul-one (getD (net .sizes) v 0)))
+
 unary-entries : (net : Network) → start (stands net) (net .vars) ≡ unaryStart (net .sizes) (net .vars)
-unary-entries net =
-    sumTo-same (net .vars) (λ v. getD (net .sizes) v 0) (λ r. tuples (stands net .size) (stands net .scope r))
-    (λ v l. rw (scope-unary (net .vars) (net .scopes) v l) (mul-one (getD (net .sizes) v 0)))
+unary-entries net = unary-start net (net .vars) (omega arith)
 
 unary-few : (left : ℕ) (d : Draft) → Fine left d → unaryStart (d .net .sizes) (d .net .vars) ≤ length (d .table)
 unary-few left d h =
@@ -266,7 +262,7 @@ fine-put left d [] cs three all distinct room c h = fine-none left d cs h
 fine-put left d (x ∷ []) cs three all distinct room c h = fine-one left d x cs (all .0) h
 fine-put left d (x ∷ y ∷ zs) cs three all distinct room c h = fine-more left d (x ∷ y ∷ zs) cs (omega arith) three all distinct (room (omega arith)) c h
 
-function-fine : (left : ℕ) (d : Draft) (text : Text) (at : ℕ) (out : Draft) (next : ℕ) → got out next ≡ function d text at → Fine (suc left) d → Fine left out
+pub function-fine : (left : ℕ) (d : Draft) (text : Text) (at : ℕ) (out : Draft) (next : ℕ) → got out next ≡ function d text at → Fine (suc left) d → Fine left out
 unfolding function
 function-fine left d text at out next e h =
     let arity = and-then _ _ _ _ e in
@@ -289,7 +285,7 @@ functions-fine (suc left) d text at out next e h =
     let one = and-then _ _ _ _ e in
     functions-fine left (one .0) text (one .1) out next (one .3) (function-fine left d text at (one .0) (one .1) (sym (one .2)) h)
 
-started-fine : (head : Head) (sized : Sized) → InRange head → Good (head .vars) sized → Fine (head .functions) (started head sized)
+pub started-fine : (head : Head) (sized : Sized) → InRange head → Good (head .vars) sized → Fine (head .functions) (started head sized)
 started-fine head sized r g =
     let net = started head sized .net in
     let z : head .vars + 0 ≡ head .vars = omega arith in
@@ -314,7 +310,7 @@ started-fine head sized r g =
     }
 
 -- ---- the whole text
-network-fine : (text : Text) (at : ℕ) (out : Draft) (next : ℕ) → got out next ≡ network text at → Fine 0 out
+pub network-fine : (text : Text) (at : ℕ) (out : Draft) (next : ℕ) → got out next ≡ network text at → Fine 0 out
 unfolding network body rest
 network-fine text at out next e =
     let head = and-then _ _ _ _ e in
@@ -327,8 +323,8 @@ network-fine text at out next e =
     let q : out ≡ all .0 = same-value _ _ _ _ (end .3) in
     rw q (functions-fine (head .0 .functions) (started (head .0) (sized .0)) text (sized .1) (all .0) (all .1) (sym (all .2)) (started-fine (head .0) (sized .0) r (rw z at g)))
 
-fine-network : (d : Draft) (rest : List ℕ) → Fine 0 d → IsNetwork (d .net) (d .table ++ rest)
-fine-network d rest h = record {
+pub fine-network : (left : ℕ) (d : Draft) (rest : List ℕ) → Fine left d → IsNetwork (d .net) (d .table ++ rest)
+fine-network left d rest h = record {
   top-some = h .top-some;
   ready = record {
     top-most = h .top-most;
@@ -349,21 +345,3 @@ fine-network d rest h = record {
   distinct = λ f l. by-different (scopeIn (inRow (d .net .scopes) f)) .says (h .distinct f l);
   costs = λ j l m. let k : j < length (d .table) = omega (arith, h .whole) in rw (List·getD-append (d .table) rest 0 j k) (All-at (λ c. c ≤ d .net .top) (d .table) (h .capped) j k);
 }
-
--- 8 never follows a successful read: the network that was read, beside the lent table as the read leaves it, is a network
-pub read-network : (text table : List ℕ) (d : Draft) (next : ℕ) → reading text (length table) ≡ got d next → isNetwork (d .net) (tableAfter (got d next) table) ≡ true
-unfolding reading
-read-network text table d next e =
-    is-true (isNetwork (d .net) (tableAfter (got d next) table)) (by-network (d .net) (tableAfter (got d next) table) .finds (fine-network d (drop (length (d .table)) table) (short (leb (length text) textMost) e)))
-  where
-    room : (g : Got Draft) → fitted (length table) g ≡ got d next → g ≡ got d next
-    room (refused a) f = f
-    room (got d′ n) f = fits (leb (length (d′ .table)) (length table)) f
-      where
-        fits : (b : Bool) → cond b (got d′ n) (refused ShortTable) ≡ got d next → got d′ n ≡ got d next
-        fits true k = k
-        fits false k = absurd (let z : _≡_ {A = ℕ} 0 1 = cc in omega arith)
-
-    short : (b : Bool) → cond b (fitted (length table) (network (textOf text) 0)) (refused LongText) ≡ got d next → Fine 0 d
-    short true f = network-fine (textOf text) 0 d next (sym (room (network (textOf text) 0) f))
-    short false f = absurd (let z : _≡_ {A = ℕ} 0 1 = cc in omega arith)

@@ -1,7 +1,7 @@
 -- Networks A, B and C of document 01, "Reckoned by hand", and three more texts, read by the definitions.
 use Prim.Native.Nat.{ℕ}
 use mathlib.Core.Path.{_≡_, refl}
-use mathlib.Core.List.{List, [], _∷_}
+use mathlib.Core.List.{List, [], _∷_, map}
 use lib.ListN.{take}
 use Rattle.answers.specs.Answers.{numberOf, placeOf}
 use Rattle.tokens.specs.Tokens.{white, dark, lead, past, tokenAt, tokenBytes, textOf}
@@ -17,7 +17,9 @@ use Rattle.soft_sums.specs.Soft.{modeAt, comparatorAt, softSum, gapBelow, gap, 
 use Rattle.placing.specs.Drafts.{Draft, sums}
 use Rattle.functions.specs.Functions.{function, functions}
 use Rattle.function_costs.specs.FunctionCosts.{marked, costs}
+use Rattle.costs.specs.Cheapest.{valueIn}
 use Rattle.reader.specs.Reading.{rest, body, network, reading}
+use Rattle.reader.specs.Said.{SaidNetwork, numbers, saidTuples, saidListed, saidSoft, saidCosts, saidFunction, saidFunctions, said, priceSaid}
 
 -- what is looked at: k, the constant, N and the number of functions; three sizes; two rows; two starts; the table
 data Look : Type 0 where
@@ -90,3 +92,21 @@ Right (x ∷ xs) = (look (reading (x .text) (x .room)) ≡ x .seen) × Right xs
 examples : Right (networkA ∷ networkB ∷ networkC ∷ strictAbove ∷ listedTwice ∷ empty ∷ [])
 unfolding white dark lead past tokenAt tokenBytes textOf andThen demand digits valueOf anyNumber numberIn name same placeAmong word follows finish header size domains product variable scope value tuple listing settled listed modeAt comparatorAt softSum gapBelow gap gapCost valuesAt total softCost softCosts marked costs sums function functions rest body network reading
 examples = (refl, (refl, (refl, (refl, (refl, (refl, tt))))))
+
+-- the prices of plans as a text says them; none where it is refused
+abbrev pricesOf : Got SaidNetwork → List (List ℕ) → List ℕ
+pricesOf (got n next) plans = map (λ q. priceSaid n (valueIn q)) plans
+pricesOf (refused answer) plans = []
+
+-- network A: "000 6; 001 6; 010 5; 011 1; 100 4; 101 4; 110 10 (13 capped); 111 9"
+pricesOfA :
+    pricesOf (said (textOf (networkA .text)) 0)
+    ((0 ∷ 0 ∷ 0 ∷ []) ∷ (0 ∷ 0 ∷ 1 ∷ []) ∷ (0 ∷ 1 ∷ 0 ∷ []) ∷ (0 ∷ 1 ∷ 1 ∷ []) ∷ (1 ∷ 0 ∷ 0 ∷ []) ∷ (1 ∷ 0 ∷ 1 ∷ []) ∷ (1 ∷ 1 ∷ 0 ∷ []) ∷ (1 ∷ 1 ∷ 1 ∷ []) ∷ [])
+    ≡ 6 ∷ 6 ∷ 5 ∷ 1 ∷ 4 ∷ 4 ∷ 10 ∷ 9 ∷ []
+unfolding white dark lead past tokenAt tokenBytes textOf andThen demand digits valueOf anyNumber numberIn name same placeAmong word follows header numbers saidTuples saidListed saidCosts saidFunction saidFunctions said
+pricesOfA = refl
+
+-- "`wsum lin 2 > 4`: Sum 4 costs 2, Sum 5 costs 0"
+pricesOfSoft : pricesOf (said (textOf (strictAbove .text)) 0) ((4 ∷ []) ∷ (5 ∷ []) ∷ []) ≡ 2 ∷ 0 ∷ []
+unfolding white dark lead past tokenAt tokenBytes textOf andThen demand digits valueOf anyNumber numberIn name same placeAmong word follows header softSum modeAt comparatorAt gap gapCost total numbers saidTuples saidListed saidSoft saidCosts saidFunction saidFunctions said
+pricesOfSoft = refl

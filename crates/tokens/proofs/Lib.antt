@@ -5,3 +5,4 @@ pub mod TokenRuns
 pub mod WordLaws
 pub mod StepLaws
 pub mod NumberLaws
+pub mod EachStep

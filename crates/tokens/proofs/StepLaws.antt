@@ -23,3 +23,6 @@ demanded false answer text at f b next e = absurd (let z : _≡_ {A = ℕ} 0 1 =
 
 pub same-value : {A : Type 0} (a b : A) (m n : ℕ) → got a m ≡ got b n → a ≡ b
 same-value a b m n e = cc
+
+pub same-next : {A : Type 0} (a b : A) (m n : ℕ) → got a m ≡ got b n → m ≡ n
+same-next a b m n e = cc

@@ -35,10 +35,10 @@ passed p s (suc n) i h = elim (decLt i (length s)) [
         let f = past-more p s i q e in
         rw f (record { each = λ j l m. elim (ℕ-discrete j i) [ yes x ↦ rw x e | no x ↦ r .0 .each j (omega arith) m ] }, r .1)
 
-pub skipped : (p : ℕ → Bool) (s : List ℕ) (i : ℕ) → Passes p s i (past p s i)
+skipped : (p : ℕ → Bool) (s : List ℕ) (i : ℕ) → Passes p s i (past p s i)
 skipped p s i = passed p s (length s) i (omega arith) .0
 
-pub stopped : (p : ℕ → Bool) (s : List ℕ) (i : ℕ) → past p s i < length s → p (getD s (past p s i) 0) ≡ false
+stopped : (p : ℕ → Bool) (s : List ℕ) (i : ℕ) → past p s i < length s → p (getD s (past p s i) 0) ≡ false
 stopped p s i = passed p s (length s) i (omega arith) .1
 
 light : (b : ℕ) → dark b ≡ false → white b ≡ true
@@ -111,7 +111,7 @@ earlier s t run at l =
     )
 
 -- each maximal run is come to, from any position before it that was come to
-pub run-token-from : (s : List ℕ) (t : Token) → Run s t → (n at : ℕ) → Reached s at → at ≤ t .start → t .start ≤ at + n → (p : ℕ) × Reached s p × (tokenAt s p ≡ t)
+run-token-from : (s : List ℕ) (t : Token) → Run s t → (n at : ℕ) → Reached s at → at ≤ t .start → t .start ≤ at + n → (p : ℕ) × Reached s p × (tokenAt s p ≡ t)
 unfolding tokenAt
 run-token-from s t run zero at r h k =
     let e : past white s at ≡ t .start = omega (arith, no-later s t run at h, past-from white s at) in
@@ -126,3 +126,49 @@ run-token-from s t run (suc n) at r h k = elim (ℕ-discrete (past white s at) (
 -- so every maximal run is one of the tokens that reading comes to
 pub run-token : (s : List ℕ) (t : Token) → Run s t → (at : ℕ) × Reached s at × (tokenAt s at ≡ t)
 run-token s t run = run-token-from s t run (t .start) 0 begin (omega arith) (omega arith)
+
+ends : (s : List ℕ) (at : ℕ) → (at ≤ tokenAt s at .start) × (tokenAt s at .start ≤ tokenAt s at .end)
+unfolding tokenAt
+ends s at = (past-from white s at, past-from dark s (past white s at))
+
+-- of two positions that reading comes to, one is not before the end of the other's token: the tokens are come to in the order of the text
+abbrev Apart : List ℕ → ℕ → ℕ → Type 0
+Apart s p q = (p ≡ q) ⊎ ((tokenAt s p .end ≤ q) ⊎ (tokenAt s q .end ≤ p))
+
+-- p and q after a token each, as they stand to the positions before
+apart-after : (s : List ℕ) (p q : ℕ) → Apart s (tokenAt s p .end) q → Apart s p (tokenAt s q .end) → Apart s (tokenAt s p .end) (tokenAt s q .end)
+apart-after s p q (inl e) h = inr (inl (rw e (omega arith)))
+apart-after s p q (inr (inl l)) h = inr (inl (omega (arith, ends s q)))
+apart-after s p q (inr (inr l)) (inl e) = inr (inr (rw e (omega arith)))
+apart-after s p q (inr (inr l)) (inr (inl m)) = inl (omega arith)
+apart-after s p q (inr (inr l)) (inr (inr m)) = inr (inr (omega (arith, ends s p)))
+
+swapped : (s : List ℕ) (p q : ℕ) → Apart s p q → Apart s q p
+swapped s p q (inl e) = inl (sym e)
+swapped s p q (inr (inl l)) = inr (inr l)
+swapped s p q (inr (inr l)) = inr (inl l)
+
+-- the start, and a position after a token
+apart-start : (s : List ℕ) (q : ℕ) → Apart s 0 q → Apart s 0 (tokenAt s q .end)
+apart-start s q (inl e) = inr (inl (rw (← e) (omega arith)))
+apart-start s q (inr (inl l)) = inr (inl (omega (arith, ends s q)))
+apart-start s q (inr (inr l)) = inl (omega arith)
+
+from-start : (s : List ℕ) (q : ℕ) → Reached s q → Apart s 0 q
+from-start s q begin = inl refl
+from-start s q (after before u) = apart-start s before (from-start s before u)
+
+in-order : (s : List ℕ) (p q : ℕ) → Reached s p → Reached s q → Apart s p q
+in-order s p q begin u = from-start s q u
+in-order s p q (after before t) u = go (λ r v. in-order s before r t v) q u
+  where
+    go : ((q : ℕ) → Reached s q → Apart s before q) → (q : ℕ) → Reached s q → Apart s (tokenAt s before .end) q
+    go ih q begin = swapped s 0 (tokenAt s before .end) (from-start s (tokenAt s before .end) (after before t))
+    go ih q (after last v) = apart-after s before last (go ih last v) (ih (tokenAt s last .end) (after last v))
+
+-- no token is come to twice
+pub token-once : (s : List ℕ) (p q : ℕ) → Reached s p → Reached s q → tokenAt s p .start < tokenAt s p .end → tokenAt s p ≡ tokenAt s q → p ≡ q
+token-once s p q t u some e =
+    let start : tokenAt s p .start ≡ tokenAt s q .start = ap (λ (x : Token). x .start) e in
+    let end : tokenAt s p .end ≡ tokenAt s q .end = ap (λ (x : Token). x .end) e in
+    ⊎-elim (λ same. same) (λ h. absurd (⊎-elim (λ l. omega (arith, ends s q)) (λ l. omega (arith, ends s p)) h)) (in-order s p q t u)

@@ -1,26 +1,26 @@
 -- `same` decides whether two runs of bytes are equal. Assumes nothing.
-use Prim.Native.Nat.{ℕ, suc, _+_, _≤_, _<_}
-use mathlib.Core.Path.{_≡_, refl}
+use Prim.Native.Nat.{ℕ, _+_, _≤_, _<_}
+use mathlib.Core.Path.{_≡_, refl, ap}
 use mathlib.Core.List.{List, [], _∷_}
-use mathlib.Core.Bool.{Bool, true, false, _&&_}
+use mathlib.Core.Bool.{Bool, true, false}
 use native.Mathlib.Numerals.{add-one}
 use native.Mathlib.Omega.{arith}
-use lib.Dec.{eqb}
 use lib.ListN.{length, getD, drop, drop-of-length-le}
 use lib.Seq.{drop-cons}
 use borrow.Author.Tests.{eq-eqb, ne-eqb}
+use Rattle.costs.specs.Tests.{Decides}
+use Rattle.costs.proofs.TestLaws.{so, by-map, by-and, by-eqb}
 use Rattle.tokens.specs.Words.{same}
 
-pub same-lengths : (v w : List ℕ) → same v w ≡ true → length v ≡ length w
+pub by-same : (v w : List ℕ) → Decides (same v w) (v ≡ w)
 unfolding same
-same-lengths [] [] h = refl
-same-lengths [] (c ∷ w) h = absurd (let z : _≡_ {A = ℕ} 0 1 = cc in omega arith)
-same-lengths (b ∷ v) [] h = absurd (let z : _≡_ {A = ℕ} 0 1 = cc in omega arith)
-same-lengths (b ∷ v) (c ∷ w) h = go (eqb b c) (same-lengths v w) h
-  where
-    go : (d : Bool) → (same v w ≡ true → length v ≡ length w) → d && same v w ≡ true → suc (length v) ≡ suc (length w)
-    go true ih k = omega (arith, ih k)
-    go false ih k = absurd (let z : _≡_ {A = ℕ} 0 1 = cc in omega arith)
+by-same [] [] = record { says = λ t. refl; finds = λ e. tt }
+by-same [] (c ∷ w) = record { says = λ t. absurd t; finds = λ e. absurd (omega (arith, ap length e)) }
+by-same (b ∷ v) [] = record { says = λ t. absurd t; finds = λ e. absurd (omega (arith, ap length e)) }
+by-same (b ∷ v) (c ∷ w) = by-map (λ h. rw (h .0, h .1)) (λ e. (ap (λ (l : List ℕ). getD l 0 0) e, ap (λ (l : List ℕ). drop 1 l) e)) (by-and (by-eqb b c) (by-same v w))
+
+pub same-lengths : (v w : List ℕ) → same v w ≡ true → length v ≡ length w
+same-lengths v w h = ap length (by-same v w .says (so h))
 
 -- runs of two lengths differ
 pub same-long : (v w : List ℕ) → (length v ≡ length w → ⊥) → false ≡ same v w

@@ -1,5 +1,6 @@
 use Rattle.listed_costs.specs.Listed.{value}
 use Rattle.tokens.specs.Steps.{andThen, demand}
+use native.Mathlib.Omega.{arith}
 use borrow.Author.Tests.{lt-ltb, le-ltb, eq-eqb, ne-eqb}
 use borrow.Author.Needs.{needs}
 use Rattle.listed_costs.proofs.read_value.Statement.{statement}
@@ -20,7 +21,7 @@ returns c = rw (← c .before .before .before .any-number .ensures, c .before .a
 
 returns-2 : tie.Need-returns-2
 unfolding value andThen demand
-returns-2 c = rw (← c .before .before .before .before .before .any-number .ensures, c .before .before .before .a .given .1, le-ltb _ _ (c .if1 .taken))
+returns-2 c = rw (← c .before .before .before .before .before .any-number .ensures, c .before .before .before .a .given .1, le-ltb (c .before .before .before .a .given .0 .0 .value) (c .before .before .before .before .before .before .before .before .args .d) (omega arith))
 
 returns-3 : tie.Need-returns-3
 unfolding value andThen demand

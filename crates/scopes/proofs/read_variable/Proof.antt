@@ -28,7 +28,7 @@ returns c = rw (← c .before .before .before .any-number .ensures, c .before .a
 
 returns-2 : tie.Need-returns-2
 unfolding variable andThen demand
-returns-2 c = rw (← c .before .before .before .before .before .any-number .ensures, c .before .before .before .x .given .1, le-ltb _ _ (c .if1 .taken))
+returns-2 c = rw (← c .before .before .before .before .before .any-number .ensures, c .before .before .before .x .given .1, le-ltb (c .before .before .before .x .given .0 .0 .value) (c .before .before .before .before .before .before .before .before .before .args .vars) (omega arith))
 
 is-among-requires : tie.Need-is-among-requires
 is-among-requires c κs = search needs

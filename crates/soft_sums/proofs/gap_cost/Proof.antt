@@ -14,6 +14,18 @@ hard-cost-requires c κs = search needs
 enum-told-2 : tie.Need-enum-told-2
 enum-told-2 c = search needs
 
+returns : tie.Need-returns
+unfolding gapCost
+returns c = rw (c .before .enum-told .given .1) (c .hard-cost .ensures)
+
+returns-2 : tie.Need-returns-2
+unfolding gapCost
+returns-2 c = rw (c .before .enum-told2 .given .1) (c .lower .ensures)
+
+returns-3 : tie.Need-returns-3
+unfolding gapCost
+returns-3 c = rw (c .before .enum-told3 .given .1) (c .lower2 .ensures)
+
 mul-lower : tie.Need-mul-lower
 mul-lower c = let p = c .before .before .pre in omega (arith, mul-le-mul (p .0) (p .1))
 
@@ -31,18 +43,6 @@ mul-lower-3 c = let p = c .before .before .pre in omega (arith, mul-le-mul (p .0
 
 lower-requires-2 : tie.Need-lower-requires-2
 lower-requires-2 c κs = search needs
-
-returns : tie.Need-returns
-unfolding gapCost
-returns c = rw (c .before .enum-told .given .1) (c .hard-cost .ensures)
-
-returns-2 : tie.Need-returns-2
-unfolding gapCost
-returns-2 c = rw (c .before .enum-told2 .given .1) (c .lower .ensures)
-
-returns-3 : tie.Need-returns-3
-unfolding gapCost
-returns-3 c = rw (c .before .enum-told3 .given .1) (c .lower2 .ensures)
 
 pub gap-cost-spec : {M : Type 1} → statement M
 gap-cost-spec =

@@ -38,11 +38,11 @@ larger-requires c κs = search needs
 
 returns-4 : tie.Need-returns-4
 unfolding size andThen demand
-returns-4 c = rw (← c .before .before .before .before .before .before .before .before .number-in .ensures, c .before .before .before .before .before .before .d .given .1, le-ltb _ _ (c .before .before .before .before .if1 .left), le-leb _ _ (c .before .before .if2 .left), ← c .before .larger .ensures, ne-eqb _ _ (c .if3 .taken))
+returns-4 c = rw (← c .before .before .before .before .before .before .before .before .number-in .ensures, c .before .before .before .before .before .before .d .given .1, le-ltb _ _ (c .before .before .before .before .if1 .left), le-leb _ _ (c .before .before .if2 .left), ← c .before .larger .ensures, ne-eqb (c .before .larger .result) (c .before .before .before .before .before .before .before .before .before .before .args .greatest) (λ e. omega (arith, e)))
 
 returns-5 : tie.Need-returns-5
 unfolding size andThen demand
-returns-5 c = rw (← c .before .before .before .before .before .before .before .before .number-in .ensures, c .before .before .before .before .before .before .d .given .1, le-ltb _ _ (c .before .before .before .before .if1 .left), le-leb _ _ (c .before .before .if2 .left), ← c .before .larger .ensures, eq-eqb _ _ (c .if3 .left))
+returns-5 c = rw (← c .before .before .before .before .before .before .before .before .number-in .ensures, c .before .before .before .before .before .before .d .given .1, le-ltb _ _ (c .before .before .before .before .if1 .left), le-leb _ _ (c .before .before .if2 .left), ← c .before .larger .ensures, eq-eqb (c .before .larger .result) (c .before .before .before .before .before .before .before .before .before .before .args .greatest) (omega arith))
 
 pub read-size-spec : {M : Type 1} → statement M
 read-size-spec =

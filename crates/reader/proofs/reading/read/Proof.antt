@@ -1,7 +1,10 @@
 use Rattle.reader.proofs.ReadingLaws.{network-stop, network-more}
 use Rattle.headings.proofs.HeaderLaws.{header-range}
+use Rattle.reader.specs.ReaderLimits.{textMost}
 use Rattle.reader.specs.Reading.{reading}
 use Rattle.headings.specs.ties.Outcomes.{headerIs}
+use lib.ListN.{length}
+use native.Mathlib.Omega.{arith}
 use borrow.Author.Tests.{le-leb, lt-leb}
 use mathlib.Core.Path.{sym, _∙_, ap}
 use borrow.Author.Needs.{needs}
@@ -16,7 +19,7 @@ same-length c = search needs
 
 returns : tie.Need-returns
 unfolding reading
-returns c = rw (lt-leb _ _ (c .before .before .before .before .if1 .taken)) (c .before .before .refuse .ensures)
+returns c = rw (lt-leb (length (c .before .before .before .before .before .before .before .args .text .now)) textMost (omega arith)) (c .before .before .refuse .ensures)
 
 read-header-requires : tie.Need-read-header-requires
 read-header-requires c κs = search needs
@@ -38,14 +41,14 @@ same-length-2 c = search needs
 
 returns-2 : tie.Need-returns-2
 unfolding reading
-returns-2 c = rw (le-leb _ _ (c .before .before .before .before .before .before .before .before .if1 .left), network-more _ _ _ (c .before .before .before .before .before .before .before .read-header .ensures) _ _ (c .before .before .before .before .before .head .given .1)) (c .before .before .read-body .ensures)
+returns-2 c = rw (le-leb (length (c .before .before .before .before .before .before .before .before .before .before .before .args .text .now)) textMost (omega arith), network-more _ _ _ (c .before .before .before .before .before .before .before .read-header .ensures) _ _ (c .before .before .before .before .before .head .given .1)) (c .before .before .read-body .ensures)
 
 same-length-3 : tie.Need-same-length-3
 same-length-3 c = search needs
 
 returns-3 : tie.Need-returns-3
 unfolding reading
-returns-3 c = rw (le-leb _ _ (c .before .before .before .before .before .before .before .before .if1 .left), network-stop _ _ _ (c .before .before .before .before .before .before .before .read-header .ensures) _ (c .before .before .before .before .before .answer .given .1)) (c .before .before .refuse2 .ensures)
+returns-3 c = rw (le-leb (length (c .before .before .before .before .before .before .before .before .before .before .before .args .text .now)) textMost (omega arith), network-stop _ _ _ (c .before .before .before .before .before .before .before .read-header .ensures) _ (c .before .before .before .before .before .answer .given .1)) (c .before .before .refuse2 .ensures)
 
 pub read-spec : {M : Type 1} → statement M
 read-spec =

@@ -16,15 +16,11 @@ Inv-loop w i₀ v₀ i v = (i ≤ length w) × (v < 10 ^ i) × (valueOf w ≡ di
 abbrev μ-loop : tie.MeasureT-loop
 μ-loop w i₀ v₀ i v = length w - i
 
--- the value has room for one digit more
-room : (l : tie.At-loop Inv-loop μ-loop) → l .loop .i < length (l .before .before .before .args .w .now) → l .loop .v < 10 ^ (digitsMost - 1)
-room l h = ten-room (l .loop .v) (l .loop .i) (omega arith) (l .loop .inv .1)
-
 returns : tie.Need-returns Inv-loop μ-loop
 returns c = short _ (c .if1 .taken)
 
 returns-2 : tie.Need-returns-2 Inv-loop μ-loop
-returns-2 c = long _ (c .if2 .taken)
+returns-2 c = long _ (omega arith)
 
 loop-holds : tie.Need-loop-holds Inv-loop μ-loop
 loop-holds c = (omega arith, lit< tt, fair _ (omega arith) (omega arith))
@@ -41,6 +37,10 @@ returns-4 : tie.Need-returns-4 Inv-loop μ-loop
 returns-4 c =
     let l = c .before .before .before .before in
     cc (digit-high (l .before .before .before .args .w .now) (l .loop .i) (l .loop .v) (omega arith) (c .before .if3 .left) (c .if4 .taken))
+
+-- the value has room for one digit more
+room : (l : tie.At-loop Inv-loop μ-loop) → l .loop .i < length (l .before .before .before .args .w .now) → l .loop .v < 10 ^ (digitsMost - 1)
+room l h = ten-room (l .loop .v) (l .loop .i) (omega arith) (l .loop .inv .1)
 
 mul-v : tie.Need-mul-v Inv-loop μ-loop
 mul-v c = omega (arith, room (c .before .before .before .before) (omega arith))

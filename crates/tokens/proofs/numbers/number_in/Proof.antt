@@ -1,6 +1,7 @@
 use Rattle.tokens.specs.Steps.{andThen, demand}
 use Rattle.tokens.specs.Numbers.{numberIn}
 use mathlib.Core.Bool.{and-false}
+use native.Mathlib.Omega.{arith}
 use borrow.Author.Tests.{le-leb, lt-leb}
 use borrow.Author.Needs.{needs}
 use Rattle.tokens.proofs.numbers.number_in.Statement.{statement}
@@ -25,11 +26,11 @@ returns-2 c = rw (← c .before .before .before .before .before .any-number .ens
 
 returns-3 : tie.Need-returns-3
 unfolding numberIn andThen demand
-returns-3 c = rw (← c .before .before .before .before .before .before .before .any-number .ensures, c .before .before .before .before .before .x .given .1, lt-leb _ _ (c .if2 .taken), and-false)
+returns-3 c = rw (← c .before .before .before .before .before .before .before .any-number .ensures, c .before .before .before .before .before .x .given .1, lt-leb (c .before .before .before .before .before .x .given .0 .0 .value) (c .before .before .before .before .before .before .before .before .before .args .most) (omega arith), and-false)
 
 returns-4 : tie.Need-returns-4
 unfolding numberIn andThen demand
-returns-4 c = rw (← c .before .before .before .before .before .before .before .any-number .ensures, c .before .before .before .before .before .x .given .1, le-leb _ _ (c .before .before .if1 .left), le-leb _ _ (c .if2 .left))
+returns-4 c = rw (← c .before .before .before .before .before .before .before .any-number .ensures, c .before .before .before .before .before .x .given .1, le-leb _ _ (c .before .before .if1 .left), le-leb (c .before .before .before .before .before .x .given .0 .0 .value) (c .before .before .before .before .before .before .before .before .before .args .most) (omega arith))
 
 pub number-in-spec : {M : Type 1} → statement M
 number-in-spec =

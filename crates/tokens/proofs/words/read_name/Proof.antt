@@ -1,5 +1,8 @@
 use Rattle.tokens.proofs.TokenLaws.{within, seen}
+use Rattle.tokens.specs.TextLimits.{nameMost}
 use Rattle.tokens.specs.Words.{name}
+use lib.ListN.{length}
+use native.Mathlib.Omega.{arith}
 use borrow.Author.Tests.{le-leb, lt-leb}
 use mathlib.Core.Bool.{and-false}
 use borrow.Author.Needs.{needs}
@@ -18,11 +21,11 @@ returns c = rw (seen _ _ _ _ (c .before .before .next-token .ensures) (c .before
 
 returns-2 : tie.Need-returns-2
 unfolding name
-returns-2 c = rw (seen _ _ _ _ (c .before .before .before .next-token .ensures) (c .before .before .bytes-of .ensures), lt-leb _ _ (c .if2 .taken), and-false)
+returns-2 c = rw (seen _ _ _ _ (c .before .before .before .next-token .ensures) (c .before .before .bytes-of .ensures), lt-leb (length (c .before .before .bytes-of .result .now)) nameMost (omega arith), and-false)
 
 returns-3 : tie.Need-returns-3
 unfolding name
-returns-3 c = rw (seen _ _ _ _ (c .before .before .before .next-token .ensures) (c .before .before .bytes-of .ensures), le-leb _ _ (c .before .if1 .left), le-leb _ _ (c .if2 .left))
+returns-3 c = rw (seen _ _ _ _ (c .before .before .before .next-token .ensures) (c .before .before .bytes-of .ensures), le-leb _ _ (c .before .if1 .left), le-leb (length (c .before .before .bytes-of .result .now)) nameMost (omega arith))
 
 pub read-name-spec : {M : Type 1} → statement M
 read-name-spec =
