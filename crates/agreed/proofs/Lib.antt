@@ -2,3 +2,4 @@ pub mod RecordsExist
 pub mod WrittenRecords
 pub mod FiledRecords
 pub mod EachHasRecord
+pub mod PricesAgree

@@ -7,7 +7,7 @@ ghost use Rattle.answers.specs.declared.Answer.the-variants.{Done};
 ghost use Rattle.records.specs.Words.{wordBytes};
 ghost use Rattle.records.specs.Records.{headerWords};
 ghost use Rattle.engines.specs.Results.{SearchLeft};
-ghost use Rattle.search.specs.Doors.{searchLeaves};
+ghost use Rattle.search.specs.Doors.{searchLeaves, CountsSteps};
 ghost use Rattle.agreed.specs.Filed.{sizeTold, Filed};
 use answers::Answer;
 use answers::number;
@@ -25,7 +25,7 @@ pub struct Checked {
     pub answer: Answer,
 }
 
-// Searches with a record and has the desk check it: of a finished search, the desk refuses nothing.
+// Searches with a record and has the desk check it: of a finished search, the desk refuses nothing, and the node count is that of the record's steps.
 pub fn search_and_check(
     net: Network,
     held: &[u64],
@@ -33,7 +33,7 @@ pub fn search_and_check(
     out: &mut [u8],
     budget: u64,
 ) -> Checked
-    ensures { λ r. ⌜ (record { result = r .found; out = now (out .exit) } ≡ searchLeaves net (now (held .entry)) (length (now (work .entry))) (length (now (out .entry))) true budget) × (r .answer ≡ r .found .answer) × (r .found .answer ≡ Done → Filed net (now (held .entry)) (length (now (work .entry))) (now (out .exit))) × ((j : ℕ) → getD (now (work .exit)) j 0 ≡ 0) ⌝ }
+    ensures { λ r. ⌜ (record { result = r .found; out = now (out .exit) } ≡ searchLeaves net (now (held .entry)) (length (now (work .entry))) (length (now (out .entry))) true budget) × (r .answer ≡ r .found .answer) × (r .found .answer ≡ Done → Filed net (now (held .entry)) (length (now (work .entry))) (now (out .exit)) × CountsSteps (now (out .exit)) (r .found .nodes)) × ((j : ℕ) → getD (now (work .exit)) j 0 ≡ 0) ⌝ }
 {
     let found = search(net, held, work, out, true, budget);
     let said = found.answer;

@@ -11,7 +11,7 @@ search-requires : tie.Need-search-requires
 search-requires c κs = search needs
 
 desk-answer-requires : tie.Need-desk-answer-requires
-desk-answer-requires c κs = let s = (c .before .before .before .before .before .before .before .before .before .before .before .before) .args in let few : length (s .out .now) < 2 ^ 64 = search needs in filed-after (s .net) (s .held .now) (length (s .work .now)) (length (s .out .now)) (c .before .before .before .before .before .before .search .last .1 .1 .0) (c .before .before .before .before .before .before .search .last .1 .1 .1 .0) (s .budget) (c .before .before .before .before .before .before .search .result) (omega (arith, c .before .before .before .before .before .before .search .kept .1 .1 .0)) few (c .before .before .before .before .before .before .search .ensures .0)
+desk-answer-requires c κs = let s = (c .before .before .before .before .before .before .before .before .before .before .before .before) .args in let few : length (s .out .now) < 2 ^ 64 = search needs in λ d. filed-after (s .net) (s .held .now) (length (s .work .now)) (length (s .out .now)) (c .before .before .before .before .before .before .search .last .1 .1 .0) (c .before .before .before .before .before .before .search .last .1 .1 .1 .0) (s .budget) (c .before .before .before .before .before .before .search .result) (omega (arith, c .before .before .before .before .before .before .search .kept .1 .1 .0)) few (c .before .before .before .before .before .before .search .ensures .0) d .0
 
 same-length : tie.Need-same-length
 same-length c = search needs
