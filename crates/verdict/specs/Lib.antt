@@ -1,2 +1,3 @@
 pub mod Verdicts
+pub mod RightLines
 pub mod Examples
