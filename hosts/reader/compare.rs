@@ -1,6 +1,6 @@
-// An ordinary reader of wcsp text, written from document 01 alone, beside the proved one: limits, texts that meet each refusal, and many
-// mutated texts are read by both and compared; then both are timed on texts of 65,536 bytes. `compare.sh` builds and runs it: the
-// outcomes come from the program `trials`, the times from a call of the library.
+// An ordinary reader of wcsp text, written from document 01 and the requests that landed, beside the proved one: limits, texts that meet
+// each refusal, and many mutated texts are read by both and compared; then both are timed on texts of 65,536 bytes. `compare.sh` builds
+// and runs it: the outcomes come from the program `trials`, the times from a call of the library.
 use std::io::{BufRead, BufReader, Write};
 use std::process::{Child, ChildStdin, ChildStdout, Command, Stdio};
 use std::sync::{Mutex, OnceLock};
@@ -97,7 +97,7 @@ fn costs(r: &mut Reader, k: u64, ds: &[u64], cells: &mut [u64]) -> Res<()> {
                 let gap = match cmp {
                     0 => (limit - sum).abs(),
                     1 => (sum == limit) as i64,
-                    2 => (sum - limit - 1).max(0),
+                    2 => (sum - limit + 1).max(0),
                     3 => (sum - limit).max(0),
                     4 => (limit - sum + 1).max(0),
                     _ => (limit - sum).max(0),
@@ -391,6 +391,8 @@ fn main() {
     expect("wsum", b"x 2 4 1 9 4 4 2 0 1 -1 wsum lin 2 > 4", 24, 0, 0, c);
     let w = proved(b"x 2 4 1 9 4 4 2 0 1 -1 wsum lin 2 > 4", 24);
     assert_eq!((w.table[8 + 4 + 3], w.table[8 + 8 + 3]), (2, 0), "Sum 4 costs 2, Sum 5 costs 0");
+    let w = proved(b"x 2 4 1 9 4 4 2 0 1 -1 wsum lin 2 < 4", 24);
+    assert_eq!((w.table[8 + 3], w.table[8 + 4 + 3], w.table[8 + 12 + 3]), (0, 2, 6), "Sum 3 has no gap, Sum 4 has 1, Sum 6 has 3");
     // each refusal at each kind of token
     expect("empty", b"", 0, 2, 0, c);
     expect("white", b" \n\t\r ", 0, 2, 5, c);

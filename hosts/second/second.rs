@@ -1,6 +1,7 @@
-// An independent second solver, written from document 01 alone and never from the proved crates: it reads a network's text its own
-// way, tries every plan in lexicographic order and keeps the first strictly cheapest below k. It has no pass, no bound and no tree,
-// so it shares no idea with the search that a mistake could hide in. Ordinary Rust, the standard library only: `rustc -O second.rs`.
+// An independent second solver, written from document 01 and the requests that landed and never from the proved crates: it reads a
+// network's text its own way, tries every plan in lexicographic order and keeps the first strictly cheapest below k. It has no pass, no
+// bound and no tree, so it shares no idea with the search that a mistake could hide in. Ordinary Rust, the standard library only:
+// `rustc -O second.rs`.
 //
 //   second                  a network's text on standard input: `cost c` and `plan …`, or `none k`, or `refused n at p`
 //   second frames           frames of `crates/trials` on standard input, a line for each (see `answer`)
@@ -211,13 +212,13 @@ fn values(dims: &[usize], entry: usize) -> Vec<usize> {
     found
 }
 
-// How far a sum is from what is asked of it, by the paper's list: `<` has no gap at K and K + 1 there.
+// How far a sum is from what is asked of it, by the paper's list, and for `<` by request M-103: with K 0 no sum is near enough.
 fn gap(compare: &str, limit: i128, sum: usize) -> u128 {
     let over = sum as i128 - limit;
     let gap = match compare {
         "==" => over.abs(),
         "!=" => (over == 0) as i128,
-        "<" => over - 1,
+        "<" => over + 1,
         "<=" => over,
         ">" => 1 - over,
         _ => -over,

@@ -655,6 +655,38 @@ def soft_sums(dice):
                 yield frame("search", text, 60, 0, 0)
 
 
+def strict_text(measure, sizes, wish, comparison, K):
+    """A soft sum beside a wish of each variable for its low or its high end, each step away from it costing 4."""
+    n = len(sizes)
+    wishes = [words_of(1, i, 0, size, [word for a in range(size) for word in (a, 4 * (a if wish == "low" else size - 1 - a))])
+              for i, size in enumerate(sizes)]
+    return b"\n".join([words_of("w", n, max(sizes), n + 1, 60), words_of(sizes)] + wishes +
+                      [words_of(n, list(range(n)), -1, "wsum", measure, 5, comparison, K)])
+
+
+def strict_sums():
+    """`<` as request M-103 has it: sums about K, K 0 and K 1,000, and records from before the request."""
+    for measure in ("hard", "lin", "quad"):
+        for sizes in ([7], [4, 4], [3, 3, 3]):
+            plans = {sum(plan): plan for plan in itertools.product(*map(range, sizes))}
+            for K in (0, 1, 4, 6, 1000):
+                text = strict_text(measure, sizes, "high", "<", K)
+                done, words = own_record(text)
+                yield frame("read", text, model.read(text)[0].entries())
+                for total in (0, K - 1, K, K + 1, 6):
+                    if total in plans:
+                        yield frame("price", text, len(sizes), *plans[total])
+                yield frame("pass", text)
+                yield frame("pass", text, sizes[0])
+                yield frame("search", text, done.nodes, 1, 8 * len(words))
+                yield check_frame(text, words)
+            # before the request `< K` cost what `<= K + 1` costs
+            for wish in ("high", "low"):
+                for K in (0, 1, 4, 6):
+                    yield check_frame(strict_text(measure, sizes, wish, "<", K),
+                                      own_record(strict_text(measure, sizes, wish, "<=", K + 1))[1])
+
+
 # --------------------------------------------------------------------------------------------------------------- (e) the limits
 
 def limits(dice):
@@ -686,6 +718,9 @@ def limits(dice):
     yield frame("read", b"e 3 16 2 9\n16 16 15\n3 2 0 1 4 0\n2 0 2 3 0", 4000)
     yield frame("read", b"e 2 16 1 1000000000000\n16 16\n2 0 1 -1 wsum quad 7 == 15", 288)
     yield frame("pass", b"e 2 16 1 1000000000000\n16 16\n2 0 1 -1 wsum quad 7 == 15", 0, 16)
+    # the greatest gap of `<`: K 0 and the greatest sum
+    for base in (7, 10 ** 12):
+        yield frame("read", b"e 3 16 1 1000000000000\n16 16 15\n3 0 1 2 -1 wsum quad %d < 0" % base, 3887)
     # functions: 256, numbered or not, and 257
     yield frame("read", b"f 0 0 256 99\n" + 256 * b"0 1 0\n", 0)
     yield frame("read", b"f 0 0 257 99\n" + 257 * b"0 1 0\n", 0)
@@ -820,6 +855,7 @@ def sections(seed):
     yield "lends", lends()
     yield "records", once(records(dice))
     yield "sums", once(soft_sums(dice))
+    yield "strict sums", once(strict_sums())
     yield "random", once(random_networks(dice, 75))
     yield "limits", limits(dice)
     yield "last", [frame("search", A, 9, 1, 1200), frame("read", A, 16), frame("search", B, 3, 1, 272)]

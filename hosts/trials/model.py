@@ -1,10 +1,10 @@
 #!/usr/bin/env python3
-"""A second implementation of the base, in plain Python, for the frames of the program `trials`.
+"""A second implementation of the base and the landed requests, in plain Python, for the frames of the program `trials`.
 
     model.py < frames > lines        one line for each frame
     model.py --self-test             the figures that document 01 reckons by hand, and more
 
-It was written from the papers alone (document 01, the readings, the description of the frames) and shares no code with the
+It was written from the papers alone (document 01, the requests, the readings, the description of the frames) and shares no code with the
 proved program.
 
 WHAT IT DECIDES WHERE THE DESCRIPTION OF THE FRAMES IS SILENT
@@ -126,7 +126,7 @@ class Tokens:
 GAPS = {
     b"==": lambda total, K: abs(K - total),
     b"!=": lambda total, K: 1 if total == K else 0,
-    b"<": lambda total, K: max(0, total - K - 1),
+    b"<": lambda total, K: max(0, total - K + 1),  # request M-103
     b"<=": lambda total, K: max(0, total - K),
     b">": lambda total, K: max(0, K - total + 1),
     b">=": lambda total, K: max(0, K - total),
@@ -761,13 +761,16 @@ def hand_tests():
     expect(read(b"x 1 16 0 1 16")[0].sizes[0], 16)
     expect(one("read", b"x 1 16 0 1 17", 1), "refused 3 at 11 table 0*1")
     # every gap, over the sums 3, 4 and 5 with K 4
-    for comparison, gaps in ((b"==", [1, 0, 1]), (b"!=", [0, 1, 0]), (b"<", [0, 0, 0]), (b"<=", [0, 0, 1]), (b">", [2, 1, 0]),
+    for comparison, gaps in ((b"==", [1, 0, 1]), (b"!=", [0, 1, 0]), (b"<", [0, 1, 2]), (b"<=", [0, 0, 1]), (b">", [2, 1, 0]),
                              (b">=", [1, 0, 0])):
         for measure, worth in ((b"lin", lambda gap: 3 * gap), (b"quad", lambda gap: 3 * gap * gap),
                                (b"hard", lambda gap: 90 if gap else 0)):
             text = b"w 1 6 1 90 6 1 0 -1 wsum %s 3 %s 4" % (measure, comparison)
             expect(read(text)[1][3:], [worth(gap) for gap in gaps])
-    expect(read(b"w 1 8 1 90 8 1 0 -1 wsum quad 3 < 4")[1], [0, 0, 0, 0, 0, 0, 3, 12])
+    # request M-103: with `<` and K 4, Sum 3 gives 0, Sum 4 gives 1, Sum 6 gives 3; with K 0 every sum has a gap
+    expect(read(b"w 1 8 1 90 8 1 0 -1 wsum quad 3 < 4")[1], [0, 0, 0, 0, 3, 12, 27, 48])
+    expect(read(b"w 1 3 1 90 3 1 0 -1 wsum lin 3 < 0")[1], [3, 6, 9])
+    expect(read(b"w 1 3 1 90 3 1 0 -1 wsum hard 3 < 1000")[1], [0, 0, 0])
 
 
 def reading_tests():

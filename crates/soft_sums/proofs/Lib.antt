@@ -1,1 +1,2 @@
 pub mod SoftLaws
+pub mod GapLaws

@@ -47,9 +47,9 @@ softSum = do
   limit ← numberIn 0 limitMost
   pure (record { mode = modeAt mode; base = base .value; comparator = comparatorAt comparator; limit = limit .value })
 
--- "`<` max(0, Sum - K - 1)"
+-- "The gap for `<` becomes max(0, Sum - K + 1)": request M-103, over document 01's "`<` max(0, Sum - K - 1)"
 unfoldable pub gapBelow : ℕ → ℕ → ℕ
-gapBelow limit sum = sum - limit - 1
+gapBelow limit sum = sum + 1 - limit
 
 -- "Gap (document 000): `==` |K - Sum|; `<=` max(0, Sum - K); `<` ..; `!=` 1 if equal, else 0 (document 000 prints the reverse);
 -- `>` max(0, K - Sum + 1); `>=` max(0, K - Sum)"

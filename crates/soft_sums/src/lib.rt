@@ -227,7 +227,7 @@ fn gap_of(comparator: Comparator, limit: u64, sum: u64) -> u64
     match comparator {
         Comparator::Equal => over(limit, sum) + over(sum, limit),
         Comparator::Unequal => same_gap(limit, sum),
-        Comparator::Below => over(over(sum, limit), 1),
+        Comparator::Below => over(sum + 1, limit),
         Comparator::AtMost => over(sum, limit),
         Comparator::Above => over(limit + 1, sum),
         Comparator::AtLeast => over(limit, sum),

@@ -25,32 +25,32 @@ same-gap-requires c κs = search needs
 enum-told-3 : tie.Need-enum-told-3
 enum-told-3 c = search needs
 
+add-over : tie.Need-add-over
+add-over c = search needs
+
 over-requires-3 : tie.Need-over-requires-3
 over-requires-3 c κs = search needs
-
-over-requires-4 : tie.Need-over-requires-4
-over-requires-4 c κs = search needs
 
 enum-told-4 : tie.Need-enum-told-4
 enum-told-4 c = search needs
 
-over-requires-5 : tie.Need-over-requires-5
-over-requires-5 c κs = search needs
+over-requires-4 : tie.Need-over-requires-4
+over-requires-4 c κs = search needs
 
 enum-told-5 : tie.Need-enum-told-5
 enum-told-5 c = search needs
 
-add-over : tie.Need-add-over
-add-over c = search needs
+add-over-2 : tie.Need-add-over-2
+add-over-2 c = search needs
 
-over-requires-6 : tie.Need-over-requires-6
-over-requires-6 c κs = search needs
+over-requires-5 : tie.Need-over-requires-5
+over-requires-5 c κs = search needs
 
 enum-told-6 : tie.Need-enum-told-6
 enum-told-6 c = search needs
 
-over-requires-7 : tie.Need-over-requires-7
-over-requires-7 c κs = search needs
+over-requires-6 : tie.Need-over-requires-6
+over-requires-6 c κs = search needs
 
 returns : tie.Need-returns
 unfolding gap
@@ -62,7 +62,7 @@ returns-2 c = (rw (c .before .enum-told2 .given .1) (c .same-gap .ensures .0), o
 
 returns-3 : tie.Need-returns-3
 unfolding gap gapBelow
-returns-3 c = (rw (c .before .before .enum-told3 .given .1) (omega arith), omega arith)
+returns-3 c = (rw (c .before .enum-told3 .given .1) (omega arith), omega arith)
 
 returns-4 : tie.Need-returns-4
 unfolding gap
@@ -87,15 +87,15 @@ gap-of-spec =
     enum-told-2
     same-gap-requires
     enum-told-3
-    over-requires-3
-    over-requires-4
-    enum-told-4
-    over-requires-5
-    enum-told-5
     add-over
-    over-requires-6
+    over-requires-3
+    enum-told-4
+    over-requires-4
+    enum-told-5
+    add-over-2
+    over-requires-5
     enum-told-6
-    over-requires-7
+    over-requires-6
     returns
     returns-2
     returns-3
