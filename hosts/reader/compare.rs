@@ -144,7 +144,8 @@ fn inner(text: &[u8], room: usize) -> Res<Outcome> {
     }
     let mut r = Reader { text, at: 0 };
     let (p, w) = r.token();
-    if w.is_empty() || w.len() > 64 {
+    // the bytes of a name are 33 to 126 (request M-101)
+    if w.is_empty() || w.len() > 64 || !w.iter().all(u8::is_ascii_graphic) {
         return Err(Refusal(2, p));
     }
     let n = r.number(0, 64)?.0 as usize;
@@ -370,6 +371,17 @@ fn main() {
     expect("greatest 17", b"x 1 17 0 5 16", 4096, 3, 4, c);
     expect("name 64", format!("{} 0 0 0 5", "n".repeat(64)).as_bytes(), 0, 0, 0, c);
     expect("name 65", format!("  {} 0 0 0 5", "n".repeat(65)).as_bytes(), 0, 2, 2, c);
+    for b in (0..=255u8).filter(|&b| !white(b)) {
+        let (number, place) = if (33..=126).contains(&b) { (0, 0) } else { (2, 1) };
+        for at in [0, 31, 63] {
+            let mut text = [vec![b' '], vec![b'n'; 64], b" 0 0 0 5".to_vec()].concat();
+            text[1 + at] = b;
+            expect("a byte of a name", &text, 0, number, place, c);
+        }
+    }
+    expect("a name with an accent", "\n caf\u{e9} 0 0 0 5".as_bytes(), 0, 2, 2, c);
+    expect("an accent behind the name", "x 0 0 0 5\u{e9}".as_bytes(), 0, 2, 8, c);
+    expect("an accent at the end", "x 0 0 0 5 \u{e9}".as_bytes(), 0, 6, 10, c);
     expect("65,536 bytes", &[b"x 0 0 0 5".to_vec(), vec![b' '; 65_527]].concat(), 0, 0, 0, c);
     expect("65,537 bytes", &[b"x 0 0 0 5".to_vec(), vec![b' '; 65_528]].concat(), 0, 1, 0, c);
     // E: sixteen variables of size 16 have 256 entries, and fifteen functions of two of them 3,840
@@ -397,7 +409,8 @@ fn main() {
     expect("empty", b"", 0, 2, 0, c);
     expect("white", b" \n\t\r ", 0, 2, 5, c);
     expect("missing", b"x 3  ", 0, 2, 5, c);
-    expect("vertical tab", b"x\x0b 0 0 0 5", 0, 0, 0, c);
+    expect("vertical tab", b"x\x0b 0 0 0 5", 0, 2, 0, c);
+    expect("vertical tab behind the name", b"x 0 0\x0b0 5", 0, 2, 4, c);
     expect("sign", b"x +1 0 0 5", 0, 2, 2, c);
     expect("greatest of none", b"x 0 1 0 5", 0, 4, 4, c);
     expect("greatest", b"x 2 3 0 5 1 2", 3, 4, 12, c);

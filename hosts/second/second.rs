@@ -99,7 +99,8 @@ fn read(bytes: &[u8]) -> Result<Network, Refusal> {
     }
     let mut text = Text { bytes, at: 0 };
     let (name, at) = text.token();
-    if name.is_empty() || name.len() > NAME {
+    // the bytes of a name are 33 to 126 (request M-101)
+    if name.is_empty() || name.len() > NAME || name.iter().any(|b| !(33..=126).contains(b)) {
         return Err((2, at));
     }
     let n = text.ranged(0, VARIABLES)?.0 as usize;
@@ -431,7 +432,9 @@ fn damage(dice: &mut Dice, tokens: &mut Vec<String>) {
     let at = dice.roll(among as u64) as usize;
     let old = tokens[at].clone();
     let number = dice.pick(&[0, 1, 2, 3, 4, 15, 16, 17, 63, 64, 65, 256, 257, 1_000, 1_001, TOP, TOP + 1, 9_999_999_999_999]);
-    let word = dice.pick(&["x", "-1", "-01", "wsum", "WSUM", "hard", "lin", "quad", "==", "=", "<", ">=", "1.0", "+1", "\u{b}"]);
+    let word = dice.pick(&[
+        "x", "-1", "-01", "wsum", "WSUM", "hard", "lin", "quad", "==", "=", "<", ">=", "1.0", "+1", "\u{b}", "\u{7f}", "\u{e9}", "!~",
+    ]);
     match dice.roll(8) {
         0 => drop(tokens.remove(at)),
         1 => tokens.insert(at, old),

@@ -137,13 +137,18 @@ WHOLE = b"""rep 4 3 9 20
 OTHER_CALLS = (("price", 4), ("shift", 4, 0, 0, 0, 1), ("pass",), ("search", 99, 1, 64), ("check", 0), ("show", 0, 0))
 
 
+def whole_tokens():
+    """Each token of WHOLE, with what stands before and behind it."""
+    at = 0
+    for token in WHOLE.split():
+        at = WHOLE.index(token, at)
+        yield WHOLE[:at], token, WHOLE[at + len(token):]
+        at += len(token)
+
+
 def damaged_texts():
     """Every token of WHOLE missing, cut off, and replaced in each way."""
-    at = 0
-    for number, token in enumerate(WHOLE.split()):
-        at = WHOLE.index(token, at)
-        before, after = WHOLE[:at], WHOLE[at + len(token):]
-        at += len(token)
+    for number, (before, token, after) in enumerate(whole_tokens()):
         yield before.rstrip()
         yield before + after
         for other in (b"x", b"-1", b"0", b"17", b"257", b"00000000000001", b"9999999999999"):
@@ -218,6 +223,57 @@ def text_refusals():
         yield frame("read", WHOLE + b"0", entries)
     yield frame("read", WHOLE, 39)
     yield frame("read", WHOLE, 40)
+
+
+# ------------------------------------------------------------------------------------------------------- (b) the bytes of a name
+
+FOREIGN = (b"\x01", b"\x1f", b"\x7f", b"\x80", b"\xc3\xa9", b"\xff")
+
+
+def with_bytes(some, length):
+    """Names of a length that have these bytes first, in the middle and last."""
+    for at in (0, (length - len(some)) // 2, length - len(some)):
+        yield b"n" * at + some + b"n" * (length - len(some) - at)
+
+
+def plain_names():
+    """Request M-101: a name's bytes are 33 to 126; in other tokens nothing moved."""
+    for some in FOREIGN + (b"!", b"~"):
+        for length in (len(some), 9, 64, 65):
+            for name in with_bytes(some, length):
+                yield frame("read", name + b" 0 0 1 7\n0 3 0", 3)
+                yield frame("read", b"\r\n\t" + name + b" 0 0 1 7\n0 3 0", 3)
+    for byte in range(256):
+        yield frame("read", b"%c 0 0 0 1" % byte, 3)
+        yield frame("read", b"a%cz 0 0 0 1" % byte, 3)
+    for lowest in (33, 63):
+        yield frame("read", bytes(range(lowest, lowest + 64)) + b" 0 0 0 1", 3)
+    # whatever else is wrong with the name, and with the text behind it; a text that is too long comes before
+    for name in (b"n" * 65, b"\xc3\xa9" * 33, b"n" * 64 + b"\xc3\xa9", b"\x00" * 65, b"\xff"):
+        for rest in (b"", b" ", b" 0 0 0 1", b" 65 17 257 0", b" x", b" \xc3\xa9"):
+            yield frame("read", b" " + name + rest, 3)
+    for spaces in (65534, 65535):
+        yield frame("read", b"\xc3\xa9" + b" " * spaces, 3)
+    for call, *numbers in OTHER_CALLS:
+        for name in (b"caf\xc3\xa9", b"\x7f"):
+            yield frame(call, b"\n" + name + WHOLE[len(b"rep"):], *numbers)
+    for entries in (0, 39, 40):
+        yield frame("read", b"\xff" + WHOLE, entries)
+        yield frame("read", b"!" + WHOLE, entries)
+    # under another name a network has the same costs and the same record
+    for text in (A, B, C, WIDE):
+        done, words = own_record(text)
+        renamed = b"~!" + text[text.index(b" "):]
+        yield frame("read", renamed, 20)
+        yield frame("search", renamed, done.nodes, 1, 8 * len(words))
+        yield check_frame(renamed, words)
+    # an e-acute and one of the bytes in each other token, and behind the last
+    for number, (before, token, after) in enumerate(list(whole_tokens())[1:]):
+        for some in (b"\xc3\xa9", FOREIGN[number % len(FOREIGN)]):
+            for other in (some, some + token, token + some):
+                yield frame("read", before + other + after, 44)
+    for some in FOREIGN:
+        yield frame("read", WHOLE + some, 44)
 
 
 # ----------------------------------------------------------------------------------------- (b) refusals of plans, nodes, shifts
@@ -851,6 +907,7 @@ def sections(seed):
     dice = Dice(seed)
     yield "hand", once(hand())
     yield "texts", once(text_refusals())
+    yield "names", once(plain_names())
     yield "calls", once(call_refusals())
     yield "lends", lends()
     yield "records", once(records(dice))

@@ -176,7 +176,8 @@ def read(text):
     if len(text) > MAX_TEXT:
         raise Refused(1, 0)
     t = Tokens(text)
-    if len(t.take()) > MAX_NAME:
+    name = t.take()
+    if len(name) > MAX_NAME or min(name) < 33 or max(name) > 126:  # the bytes by request M-101
         raise Refused(2, t.at)
     net = Network()
     net.n = t.number(0, MAX_N)
@@ -776,6 +777,7 @@ def hand_tests():
 def reading_tests():
     for text, wanted in (
             (b"x" * 65537, "1 at 0"), (b" \n", "2 at 2"), (b"n" * 65 + b" 0 0 0 1", "2 at 0"), (b"n 0 0 0 ", "2 at 8"),
+            (b" n\xc3\xa9 0 0 0 1", "2 at 1"), (b"n\x7f 0 0 0 1", "2 at 0"), (b"\x1fn 0 0 0 1", "2 at 0"), (b"n 0 0 0 1\xc3\xa9", "2 at 8"),
             (b"n 0 0 0 00000000000001", "2 at 8"), (b"n 0 0 0 0", "3 at 8"), (b"n 0 0 0 1000000000001", "3 at 8"),
             (b"n 0 1 0 1", "4 at 4"), (b"n 0 17 0 1", "3 at 4"), (b"n 2 3 0 1 1 2", "4 at 12"), (b"n 0 0 257 1", "3 at 6"),
             (b"n 0 0 1 5 0 -1 0", "2 at 12"), (b"n 0 0 1 5 0 1 1", "3 at 14"), (b"n 1 1 1 5 1 1 1 0 0", "4 at 14"),

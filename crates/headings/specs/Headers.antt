@@ -1,4 +1,5 @@
--- The header: "name (1 to 64 bytes), N (0 to 64), greatest domain size (0 to 16), number of functions (0 to 256), k (1 to 1,000,000,000,000)".
+-- The header: "name (1 to 64 bytes), N (0 to 64), greatest domain size (0 to 16), number of functions (0 to 256), k (1 to 1,000,000,000,000)"; the
+-- bytes of a name by request M-101.
 use lib.Dec.{eqb}
 use Rattle.costs.specs.Limits.{varsMost, sizeMost, functionsMost, costMost}
 use Rattle.answers.specs.declared.Answer.the-variants.{Unfitting}

@@ -6,3 +6,4 @@ pub mod CostsSaid
 pub mod NetworkRead
 pub mod PricesSaid
 pub mod ReadIsRight
+pub mod NamedTexts

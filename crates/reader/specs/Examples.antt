@@ -1,4 +1,4 @@
--- Networks A, B and C of document 01, "Reckoned by hand", and three more texts, read by the definitions.
+-- Networks A, B and C of document 01, "Reckoned by hand", and four more texts, read by the definitions.
 use Prim.Native.Nat.{ℕ}
 use mathlib.Core.Path.{_≡_, refl}
 use mathlib.Core.List.{List, [], _∷_, map}
@@ -7,6 +7,7 @@ use Rattle.answers.specs.Answers.{numberOf, placeOf}
 use Rattle.tokens.specs.Tokens.{white, dark, lead, past, tokenAt, tokenBytes, textOf}
 use Rattle.tokens.specs.Steps.{Got, got, refused, andThen, demand}
 use Rattle.tokens.specs.Numbers.{digits, valueOf, anyNumber, numberIn}
+use Rattle.tokens.specs.Names.{isName}
 use Rattle.tokens.specs.Words.{name, same, placeAmong, word, follows, finish}
 use Rattle.headings.specs.Headers.{header}
 use Rattle.headings.specs.Domains.{size, domains}
@@ -85,13 +86,21 @@ empty = record {
   seen = refusal 2 0;
 }
 
+-- request M-101: "A network name with an accent", here ` né 0 0 0 5`
+abbrev accented : Example
+accented = record {
+  text = 32 ∷ 110 ∷ 195 ∷ 169 ∷ 32 ∷ 48 ∷ 32 ∷ 48 ∷ 32 ∷ 48 ∷ 32 ∷ 53 ∷ [];
+  room = 0;
+  seen = refusal 2 1;
+}
+
 abbrev Right : List Example → Type 0
 Right [] = Unit {0}
 Right (x ∷ xs) = (look (reading (x .text) (x .room)) ≡ x .seen) × Right xs
 
-examples : Right (networkA ∷ networkB ∷ networkC ∷ strictAbove ∷ listedTwice ∷ empty ∷ [])
-unfolding white dark lead past tokenAt tokenBytes textOf andThen demand digits valueOf anyNumber numberIn name same placeAmong word follows finish header size domains product variable scope value tuple listing settled listed modeAt comparatorAt softSum gapBelow gap gapCost valuesAt total softCost softCosts marked costs sums function functions rest body network reading
-examples = (refl, (refl, (refl, (refl, (refl, (refl, tt))))))
+examples : Right (networkA ∷ networkB ∷ networkC ∷ strictAbove ∷ listedTwice ∷ empty ∷ accented ∷ [])
+unfolding white dark lead past tokenAt tokenBytes textOf andThen demand digits valueOf anyNumber numberIn isName name same placeAmong word follows finish header size domains product variable scope value tuple listing settled listed modeAt comparatorAt softSum gapBelow gap gapCost valuesAt total softCost softCosts marked costs sums function functions rest body network reading
+examples = (refl, (refl, (refl, (refl, (refl, (refl, (refl, tt)))))))
 
 -- the prices of plans as a text says them; none where it is refused
 abbrev pricesOf : Got SaidNetwork → List (List ℕ) → List ℕ
@@ -103,10 +112,10 @@ pricesOfA :
     pricesOf (said (textOf (networkA .text)) 0)
     ((0 ∷ 0 ∷ 0 ∷ []) ∷ (0 ∷ 0 ∷ 1 ∷ []) ∷ (0 ∷ 1 ∷ 0 ∷ []) ∷ (0 ∷ 1 ∷ 1 ∷ []) ∷ (1 ∷ 0 ∷ 0 ∷ []) ∷ (1 ∷ 0 ∷ 1 ∷ []) ∷ (1 ∷ 1 ∷ 0 ∷ []) ∷ (1 ∷ 1 ∷ 1 ∷ []) ∷ [])
     ≡ 6 ∷ 6 ∷ 5 ∷ 1 ∷ 4 ∷ 4 ∷ 10 ∷ 9 ∷ []
-unfolding white dark lead past tokenAt tokenBytes textOf andThen demand digits valueOf anyNumber numberIn name same placeAmong word follows header numbers saidTuples saidListed saidCosts saidFunction saidFunctions said
+unfolding white dark lead past tokenAt tokenBytes textOf andThen demand digits valueOf anyNumber numberIn isName name same placeAmong word follows header numbers saidTuples saidListed saidCosts saidFunction saidFunctions said
 pricesOfA = refl
 
 -- "`wsum lin 2 > 4`: Sum 4 costs 2, Sum 5 costs 0"
 pricesOfSoft : pricesOf (said (textOf (strictAbove .text)) 0) ((4 ∷ []) ∷ (5 ∷ []) ∷ []) ≡ 2 ∷ 0 ∷ []
-unfolding white dark lead past tokenAt tokenBytes textOf andThen demand digits valueOf anyNumber numberIn name same placeAmong word follows header softSum modeAt comparatorAt gap gapCost total numbers saidTuples saidListed saidSoft saidCosts saidFunction saidFunctions said
+unfolding white dark lead past tokenAt tokenBytes textOf andThen demand digits valueOf anyNumber numberIn isName name same placeAmong word follows header softSum modeAt comparatorAt gap gapCost total numbers saidTuples saidListed saidSoft saidCosts saidFunction saidFunctions said
 pricesOfSoft = refl

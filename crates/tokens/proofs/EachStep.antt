@@ -8,11 +8,10 @@ use lib.Dec.{ltb}
 use lib.ListN.{length}
 use Rattle.answers.specs.declared.Answer.{Answer}
 use Rattle.answers.specs.Answers.{numberOf}
-use Rattle.costs.specs.Tests.{between}
-use Rattle.tokens.specs.TextLimits.{nameMost}
 use Rattle.tokens.specs.Tokens.{Text}
 use Rattle.tokens.specs.Steps.{Got, got, refused, andThen, demand}
 use Rattle.tokens.specs.Numbers.{valueOf, taken, anyNumber, numberIn}
+use Rattle.tokens.specs.Names.{isName}
 use Rattle.tokens.specs.Words.{name, same, placeAmong, word, follows, finish}
 use Rattle.tokens.specs.declared.numbers.Digits.{Digits}
 use Rattle.tokens.specs.declared.numbers.Digits.the-variants.{Value, Not}
@@ -68,7 +67,7 @@ module _ {R : ℕ → Type 0} where
 
     pub alike-name : (at : ℕ) → R at → Alike R (name s at) (name t at)
     unfolding name
-    alike-name at r = rw (← m .meets at r) (alike-cond (between 1 nameMost (length (s at .bytes))) (alike-pure tt _ (m .onward at r)) (alike-refused _ (omega arith, omega arith)))
+    alike-name at r = rw (← m .meets at r) (alike-cond (isName (s at .bytes)) (alike-pure tt _ (m .onward at r)) (alike-refused _ (omega arith, omega arith)))
 
     pub alike-word : (ws : List (List ℕ)) (at : ℕ) → R at → Alike R (word ws s at) (word ws t at)
     unfolding word

@@ -2,6 +2,7 @@ pub mod PastLaws
 pub mod DigitLaws
 pub mod TokenLaws
 pub mod TokenRuns
+pub mod NameLaws
 pub mod WordLaws
 pub mod StepLaws
 pub mod NumberLaws

@@ -3,5 +3,7 @@ pub mod Tokens
 pub mod Runs
 pub mod Steps
 pub mod Numbers
+pub mod Names
 pub mod Words
+pub mod Examples
 pub mod ties

@@ -1,4 +1,4 @@
--- Document 01's limits of a token, each once. `src/limits.rt` has the same numbers for the code.
+-- The limits of a token in document 01 and request M-101, each once. `src/limits.rt` has the same numbers for the code.
 use Prim.Native.Nat.{ℕ}
 
 -- "A number is 1 to 13 decimal digits"
@@ -8,3 +8,10 @@ digitsMost = 13
 -- "name (1 to 64 bytes)"
 abbrev pub nameMost : ℕ
 nameMost = 64
+
+-- request M-101: "a name with any byte outside 33 to 126"
+abbrev pub nameByteLeast : ℕ
+nameByteLeast = 33
+
+abbrev pub nameByteMost : ℕ
+nameByteMost = 126

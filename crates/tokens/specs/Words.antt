@@ -1,17 +1,16 @@
--- Names and words, as exact bytes.
+-- Tokens that are names or words; words are exact bytes.
 use Prim.Native.Nat.{ℕ, suc}
 use mathlib.Core.List.{List, [], _∷_}
 use mathlib.Core.Bool.{Bool, true, false, cond, _&&_}
 use lib.ListN.{length}
 use lib.Dec.{ltb, eqb}
 use Rattle.answers.specs.declared.Answer.the-variants.{BadToken, TextAfter}
-use Rattle.costs.specs.Tests.{between}
-use Rattle.tokens.specs.TextLimits.{nameMost}
 use Rattle.tokens.specs.Steps.{Got, got, refused, Reads}
+use Rattle.tokens.specs.Names.{isName}
 
--- "name (1 to 64 bytes)": 2 where it is missing or longer
+-- the next token, which has to be a name: 2 where it is "missing or not of its kind", whatever is wrong with it
 unfoldable pub name : Reads (Unit {0})
-name text at = cond (between 1 nameMost (length (text at .bytes))) (got tt (text at .end)) (refused (BadToken (text at .start)))
+name text at = cond (isName (text at .bytes)) (got tt (text at .end)) (refused (BadToken (text at .start)))
 
 -- whether two runs of bytes are the same
 unfoldable pub same : List ℕ → List ℕ → Bool

@@ -3,7 +3,7 @@ ghost use mathlib.Core.Path.{_≡_};
 ghost use Rattle.tokens.specs.Tokens.{textOf};
 ghost use Rattle.tokens.specs.Words.{name, same, wordAmong, follows, finish};
 ghost use Rattle.tokens.specs.ties.Outcomes.{posIs, wordIs, followsIs};
-use crate::limits::NAME;
+use crate::names::is_name;
 use crate::tokens::Token;
 use crate::tokens::bytes_of;
 use crate::tokens::next_token;
@@ -36,14 +36,10 @@ pub fn read_name(text: &[u8], at: usize) -> Pos
     ensures { λ r. ⌜ posIs r tt ≡ name (textOf (now (text .entry))) at ⌝ }
 {
     let token = next_token(text, at);
-    let many = bytes_of(text, token).len();
-    if many < 1 {
-        return Pos::Refused(Answer::BadToken(token.start));
+    if is_name(bytes_of(text, token)) {
+        return Pos::At(token.end);
     }
-    if NAME < many {
-        return Pos::Refused(Answer::BadToken(token.start));
-    }
-    Pos::At(token.end)
+    Pos::Refused(Answer::BadToken(token.start))
 }
 
 // Whether two runs of bytes are the same.

@@ -10,6 +10,7 @@ use Rattle.judging.specs.Judging.{rangesGood, sizesGood, variablesGood, rowGood
 use Rattle.tokens.specs.Tokens.{white, dark, lead, past, tokenAt, tokenBytes, textOf}
 use Rattle.tokens.specs.Steps.{andThen, demand}
 use Rattle.tokens.specs.Numbers.{digits, valueOf, anyNumber, numberIn}
+use Rattle.tokens.specs.Names.{isName}
 use Rattle.tokens.specs.Words.{name, same, follows, finish}
 use Rattle.stretches.specs.Sizes.{product}
 use Rattle.scopes.specs.Scopes.{variable, scope}
@@ -77,7 +78,7 @@ Right [] = Unit {0}
 Right (x ∷ xs) = (printed (x .text) ≡ x .lines) × Right xs
 
 examples : Right (networkA ∷ networkB ∷ networkC ∷ noVariable ∷ empty ∷ [])
-unfolding white dark lead past tokenAt tokenBytes textOf andThen demand digits valueOf anyNumber numberIn name same follows finish header size domains product variable scope value tuple listing settled listed costs sums function functions rest body network reading rangesGood sizesGood variablesGood rowGood scopesGood stretchesGood costsGood isNetwork judged minus inStretch fixing least shifted pass budget visit leavesOf firstLook searchOf shortest choicesTo
+unfolding white dark lead past tokenAt tokenBytes textOf andThen demand digits valueOf anyNumber numberIn isName name same follows finish header size domains product variable scope value tuple listing settled listed costs sums function functions rest body network reading rangesGood sizesGood variablesGood rowGood scopesGood stretchesGood costsGood isNetwork judged minus inStretch fixing least shifted pass budget visit leavesOf firstLook searchOf shortest choicesTo
 examples = (refl, (refl, (refl, (refl, (refl, tt)))))
 
 -- "more nodes needed than the budget": a search that ended without a result prints its refusal
