@@ -1,6 +1,6 @@
 #!/usr/bin/env bash
-# Holds the proved code against the second solver: both answer the stored trials and freshly generated networks, and each verdict,
-# price and plan is compared, frame by frame. The exit status is 1 if one differed.
+# Holds the proved code against the second solver: both answer the stored trials and freshly generated networks, and each reading, each
+# verdict and plan, and each price with where it breaks is compared, frame by frame. The exit status is 1 if one differed.
 #
 #   hosts/second/compare.sh [SEED [COUNT]]     COUNT generated networks (5,000) from the seeds SEED (1), SEED + 1, …
 #
@@ -33,7 +33,7 @@ compare() {
         BEGIN { printf "" > differing }
         {
             said = $1
-            # a search says `unread` of a text that is refused
+            # a search and a price say `unread` of a text that is refused
             sub(/^unread /, "refused ", said)
             # what the second solver does not know: the nodes, and the buffers after a search or a refused read
             sub(/ nodes .*/, "", said)

@@ -6,7 +6,7 @@
 //   second                  a network's text on standard input: `cost c` and `plan …`, or `none k`, or `refused n at p`
 //   second frames           frames of `crates/trials` on standard input, a line for each (see `answer`)
 //   second frame J          the J-th of those frames as it stands, to look at one that differed
-//   second make SEED COUNT  COUNT generated networks as `search` frames, drawn from the seeds SEED, SEED + 1, …
+//   second make SEED COUNT  COUNT generated networks, each in a `search` and a `price` frame, drawn from the seeds SEED, SEED + 1, …
 use std::io::{self, BufRead, BufReader, BufWriter, Read, Write};
 
 // ---- The paper's limits, and those of a frame
@@ -249,6 +249,29 @@ fn price(net: &Network, plan: &[usize]) -> u128 {
     sum.min(net.k)
 }
 
+// The first part at which the sum reaches k (request M-108). It reaches k where nothing of k is left to pay.
+fn broken(net: &Network, plan: &[usize]) -> String {
+    let mut left = net.k;
+    let mut uses_up = |cost: u128| {
+        left -= left.min(cost);
+        left == 0
+    };
+    if uses_up(net.constant) {
+        return "constant".to_string();
+    }
+    for (i, &a) in plan.iter().enumerate() {
+        if uses_up(net.unary[i][a]) {
+            return format!("unary {i}");
+        }
+    }
+    for (number, f) in net.functions.iter().enumerate() {
+        if uses_up(f.costs[f.scope.iter().fold(0, |e, &v| e * net.sizes[v] + plan[v])]) {
+            return format!("function {number}");
+        }
+    }
+    "nowhere".to_string()
+}
+
 fn cheapest(net: &Network) -> Option<(u128, Vec<usize>)> {
     let mut plan = vec![0; net.sizes.len()];
     let mut best = None;
@@ -321,18 +344,32 @@ fn frame(input: &mut impl BufRead) -> Option<Frame> {
     Some(Frame { call, numbers, text: payload, whole })
 }
 
-// What this solver says to a frame: to `search` its verdict, whatever budget and room the frame gives; to `read` the refusal, or the
-// whole line that the trials have for a text that is read; `-` to every other call, and where there are too many plans to try.
+// What this solver says to a frame: to `search` its verdict, whatever budget and room the frame gives; to `read` and `price` the refusal,
+// or the whole line that the trials have for what is done; `-` to every other call, and where there are too many plans to try.
 fn answer(frame: &Frame) -> String {
-    let read_only = frame.call == "read";
-    if !read_only && frame.call != "search" {
+    let call = frame.call.as_str();
+    if !["read", "price", "search"].contains(&call) {
         return "-".to_string();
     }
     match read(&frame.text) {
         Err((n, p)) => format!("refused {n} at {p}"),
-        Ok(net) if read_only => reading(&net, frame.numbers.get(1).map_or(0, |&l| l as usize)),
+        Ok(net) if call == "read" => reading(&net, frame.numbers.get(1).map_or(0, |&l| l as usize)),
+        Ok(net) if call == "price" => priced(&net, &frame.numbers[1..]),
         Ok(net) if plans(&net.sizes) > MOST_PLANS => "-".to_string(),
         Ok(net) => verdict(&net, " "),
+    }
+}
+
+// A plan's count and then its choices: those that are not given are 0, those past the count are nothing.
+fn priced(net: &Network, numbers: &[u64]) -> String {
+    let n = net.sizes.len();
+    if numbers.first() != Some(&(n as u64)) {
+        return "refused 9 at 0".to_string();
+    }
+    let plan: Vec<usize> = (1..=n).map(|at| numbers.get(at).map_or(0, |&a| a as usize)).collect();
+    match (0..n).find(|&i| plan[i] >= net.sizes[i]) {
+        Some(i) => format!("refused 9 at {i}"),
+        None => format!("done {} {}", price(net, &plan), broken(net, &plan)),
     }
 }
 
@@ -459,8 +496,12 @@ fn made(seed: u64) -> String {
     } else {
         tokens.iter().map(|t| t.clone() + dice.pick(&[" ", "  ", "\t", "\n", "\r\n"])).collect()
     };
+    // drawn last, so that a seed's network does not hang on it
+    let sizes = read(text.as_bytes()).map_or(Vec::new(), |net| net.sizes);
+    let plan: Vec<u64> = sizes.iter().map(|&d| dice.roll(d as u64)).collect();
     // the budget is above any tree of so few plans
-    format!("search {} 1000000 0 0\n{text}\n", text.len())
+    let long = text.len();
+    format!("search {long} 1000000 0 0\n{text}\nprice {long} {}{}\n{text}\n", plan.len(), spaced(&plan))
 }
 
 // ---- The program

@@ -743,6 +743,152 @@ def strict_sums():
                                       own_record(strict_text(measure, sizes, wish, "<=", K + 1))[1])
 
 
+# ---------------------------------------------------------------------------------------------------------- where a plan breaks
+
+# sizes, a plan in which no value is its variable's number (but for LONG), and the functions' scopes
+MIXED = ((2, 3, 2), (1, 2, 0), ((2, 0), (1, 2, 0), (0, 1)))
+TWICE = ((2, 1, 4, 3), (1, 0, 3, 2), ((3, 1, 2), (0, 3), (0, 3), (2, 3, 0)))
+BARE = ((2, 4, 3), (1, 3, 0), ())
+FEW = ((2, 1), (1, 0), ((1, 0),))
+NOTHING = ((), (), ())
+LONG = ((1,) * 64, (0,) * 64, ((63, 0), (62, 63, 1)))
+
+
+def costing(shape, k, costs):
+    """A network whose parts cost these at the shape's plan: the constant, the unary costs, the functions. Elsewhere a part that is
+    free at the plan costs k, any other nothing. The text has them in another order, and the constant in two."""
+    sizes, plan, scopes = shape
+    constant, unary, functions = costs[0], costs[1:1 + len(sizes)], costs[1 + len(sizes):]
+
+    def written(scope, cost):
+        return words_of(len(scope), list(scope), 0 if cost else k, 1, [plan[v] for v in scope], cost)
+    ones = [written((i,), cost) for i, cost in enumerate(unary)][::-1]
+    others = [written(scope, cost) for scope, cost in zip(scopes, functions)]
+    body = [words for two in itertools.zip_longest(others, ones) for words in two if words]
+    body += [words_of(0, constant // 2, 0), words_of(0, constant - constant // 2, 0)]
+    return b"\n".join([words_of("b", len(sizes), max(sizes, default=0), len(body), k), words_of(list(sizes))] + body)
+
+
+def parts_in(shape):
+    sizes, _, scopes = shape
+    return 1 + len(sizes) + len(scopes)
+
+
+def planned(shape, text):
+    plan = shape[1]
+    return frame("price", text, len(plan), *plan)
+
+
+def spread(total, count):
+    """A total over so many parts; the first takes what is left over."""
+    return [total // count + (total % count if at == 0 else 0) for at in range(count)]
+
+
+def about(k, before, behind):
+    """Costs by which the running sum reaches k at the part with so many before and behind it, or just does not."""
+    free, full = [0] * behind, [k] * behind
+    if before == 0:
+        yield from ([k] + free, [k] + full, [k - 1] + free, [k - 1] + [1] * behind)
+        return
+    first, last, even = [k - 1] + [0] * (before - 1), [0] * (before - 1) + [k - 1], spread(k - 1, before)
+    yield first + [1] + free                                    # just enough, with nothing behind it
+    yield last + [1] + full                                     # and with parts behind it that would do alone
+    yield last + [k] + full                                     # more than enough
+    yield [0] * before + [k] + free                             # alone
+    yield spread(k // 2, before) + [k - k // 2 + 1] + free      # with one more than it takes
+    yield even + [1] + [1] * behind
+    yield even + [0] + free                                     # one short of it
+    yield [0] * before + [k - 1] + [1] * behind                 # so that the next part reaches it, if there is one
+
+
+def breaking_parts():
+    """Each part as the one that breaks."""
+    for shape, ks in ((MIXED, (10, 1)), (TWICE, (10 ** 12,)), (BARE, (10,)), (FEW, (1, 2)), (NOTHING, (10, 1, 10 ** 12))):
+        count = parts_in(shape)
+        for k in ks:
+            for at in range(count):
+                for costs in about(k, at, count - at - 1):
+                    yield planned(shape, costing(shape, k, costs))
+    # every part costs 1, so the k-th breaks
+    for shape, ks in ((TWICE, range(1, 11)), (LONG, (1, 2, 33, 64, 65, 66, 67, 68))):
+        for k in ks:
+            yield planned(shape, costing(shape, k, [1] * parts_in(shape)))
+    for k in (1, 2, 128, 129, 255, 256, 257):
+        yield frame("price", b"f 2 1 256 %d\n1 1\n" % k + 256 * b"2 1 0 1 0\n", 2)
+    # costs of soft sums, and a variable's cost out of two functions of the text: it is one part
+    for text in (b"w 2 4 4 12\n4 4\n2 1 0 -1 wsum lin 4 == 3\n2 0 1 -1 wsum hard 0 != 3\n0 2 0\n1 1 -1 wsum quad 1 < 1",
+                 b"u 2 2 4 9\n2 2\n1 1 0 1\n1 5\n1 0 0 1\n1 4\n1 1 0 1\n1 4\n1 0 0 1\n1 4"):
+        for plan in itertools.product(*map(range, model.read(text)[0].sizes[:2])):
+            yield frame("price", text, 2, *plan)
+
+
+def refused_breaks():
+    """Refusals of plans and texts where the sum reaches k early: no part is told, and none keeps the rest from being judged."""
+    sizes, plan, _ = MIXED
+    for at in (0, 1, 3):
+        text = costing(MIXED, 10, [0] * at + [10] + [0] * (6 - at))
+        yield frame("price", text, 3, *plan + (255,) * 61)
+        for count in (0, 2, 4, GREATEST):
+            yield frame("price", text, count, *plan)
+        for i, size in enumerate(sizes):
+            for value in (size, 255):
+                yield frame("price", text, 3, *plan[:i] + (value,) + plan[i + 1:])
+        yield planned(MIXED, text + b" 0")
+    for count in (1, GREATEST):
+        yield frame("price", costing(NOTHING, 10, [10]), count)
+
+
+def lent_breaks():
+    """A replaced number moves the part, or is refused."""
+    def lent(text, plan, entries, *number):
+        return frame("lend", b"", entries, 0, *number) + frame("price", text, len(plan), *plan)
+    # network A, its constant and its k; plan 111 is one short of k
+    for plan in ((1, 1, 0), (1, 1, 1)):
+        for constant in (0, 2, 6, 7, 9, 10, 11):
+            yield lent(A, plan, 14, 2, 0, constant)
+        for k in (4, 5, 9, 11, 13, 14):
+            yield lent(A, plan, 14, 1, 0, k)
+    # each of its costs, and an entry past them
+    for place, cost in enumerate(model.read(A)[1]):
+        yield lent(A, (1, 1, 0), 14, 9, place, 10)
+        yield lent(A, (1, 1, 1), 14, 9, place, cost + 1)
+    yield lent(A, (1, 1, 0), 15, 9, 14, GREATEST)
+    # a scope's variables, and the third of an arity of 2
+    for place, value in ((0, 2), (1, 2), (2, 1), (3, 0), (4, 0)):
+        for plan in ((1, 1, 0), (1, 0, 1)):
+            yield lent(A, plan, 14, 7, place, value)
+    # parts past a count are none
+    ones = costing(TWICE, 8, [1] * 9)
+    for functions in range(6):
+        yield lent(ones, TWICE[1], model.read(ones)[0].entries(), 5, 0, functions)
+    bare = costing(BARE, 8, [2] * 4)
+    for n in range(4):
+        yield lent(bare, BARE[1][:n], 9, 3, 0, n)
+    # another size moves the unary costs behind it; with a greater one, a 77 is among the costs
+    bare = costing(BARE, 4, [2] * 4)
+    for place, size, plan in ((0, 1, (0, 0, 0)), (1, 3, (0, 0, 1)), (1, 4, (0, 0, 1)), (0, 3, (0, 0, 0))):
+        yield lent(bare, plan, 12, 4, place, size)
+    # without variables
+    for constant in (9, 10, 11):
+        yield lent(costing(NOTHING, 10, [4]), (), 0, 2, 0, constant)
+    for k in (3, 4, 5):
+        yield lent(costing(NOTHING, 10, [4]), (), 0, 1, 0, k)
+    # at the constant already, and refused: 7, 8 for a cost that the plan does not pay, and 8 before 9
+    text = costing(MIXED, 10, [10] + [0] * 6)
+    e = model.read(text)[0].entries()
+    for entries, *number in ((e - 1, 0, 0, 0), (0, 0, 0, 0), (e, 9, 0, 11), (e, 9, e - 1, 11), (e, 1, 0, 9), (e, 2, 0, 11)):
+        yield lent(text, MIXED[1], entries, *number)
+    yield lent(text, (9, 9, 9), e, 9, 0, 11)
+    yield lent(text, (1, 2), e - 1, 0, 0, 0)
+
+
+def breaks():
+    """Request M-108: the first part at which the running sum reaches k."""
+    yield from once(breaking_parts())
+    yield from once(refused_breaks())
+    yield from lent_breaks()
+
+
 # --------------------------------------------------------------------------------------------------------------- (e) the limits
 
 def limits(dice):
@@ -913,6 +1059,7 @@ def sections(seed):
     yield "records", once(records(dice))
     yield "sums", once(soft_sums(dice))
     yield "strict sums", once(strict_sums())
+    yield "breaks", breaks()
     yield "random", once(random_networks(dice, 75))
     yield "limits", limits(dice)
     yield "last", [frame("search", A, 9, 1, 1200), frame("read", A, 16), frame("search", B, 3, 1, 272)]

@@ -257,24 +257,41 @@ def judge_node(net, node):
 
 # -------------------------------------------------------------------------------------------------------------------- the price
 
-def cost_of(net, table, plan):
-    total = net.constant + sum(table[net.unary(i, plan[i])] for i in range(net.n))
+def parts(net, table, plan):
+    """Each part of a price in the order of request M-108, with what the plan pays for it."""
+    yield "constant", net.constant
+    for i in range(net.n):
+        yield "unary %d" % i, table[net.unary(i, plan[i])]
     for f in range(net.functions):
         cell = 0
         for v in net.scope(f):
             cell = cell * net.sizes[v] + plan[v]
-        total += table[net.start[f] + cell]
-    return min(net.k, total)
+        yield "function %d" % f, table[net.start[f] + cell]
+
+
+def cost_of(net, table, plan):
+    return min(net.k, sum(cost for _, cost in parts(net, table, plan)))
+
+
+def breaks_at(net, table, plan):
+    """The first part at which the running sum reaches k (request M-108)."""
+    running = 0
+    for part, cost in parts(net, table, plan):
+        running = min(net.k, running + cost)
+        if running == net.k:
+            return part
+    return "nowhere"
 
 
 def price(net, held, count, choices):
+    """The price, and where the plan breaks."""
     judge(net, held)
     if count != net.n:
         raise Refused(9, 0)
     for i in range(net.n):
         if choices[i] >= net.sizes[i]:
             raise Refused(9, i)
-    return cost_of(net, held, choices)
+    return cost_of(net, held, choices), breaks_at(net, held, choices)
 
 
 # ------------------------------------------------------------------------------------------------------------------- the shifts
@@ -616,7 +633,7 @@ def answer_read(text, entries):
 
 def answer_price(net, held, work, numbers, record):
     try:
-        return line("done", price(net, held, numbers[0], padded(numbers[1:])))
+        return line("done", *price(net, held, numbers[0], padded(numbers[1:])))
     except Refused as no:
         return line("refused", no.number, "at", no.place)
 
@@ -724,7 +741,8 @@ def hand_tests():
     expect(one("read", A, 14), "done 10 1 3 2 2 2 2 2 0 1 2 1 2 table 0*1 3*1 0*4 5*1 0*2 5*1 0*2 4*1 0*1")
     expect(one("read", A, 13), "refused 7 at 0 table 0*13")
     expect([one("price", A, 3, *plan) for plan in product((0, 1), repeat=3)],
-           ["done %d" % p for p in (6, 6, 5, 1, 4, 4, 10, 9)])
+           ["done 6 nowhere", "done 6 nowhere", "done 5 nowhere", "done 1 nowhere",
+            "done 4 nowhere", "done 4 nowhere", "done 10 function 1", "done 9 nowhere"])
     expect(printed(A), ["cost 1", "plan 0 1 1", "nodes 9"])
     # the four shifts (P): plain, and beside dead entries of another variable
     for head, free, tuples in ((b"s 2 2 2 10 1 2 2 0 1 %d 1 0 1 %d", (), lambda x, y: [x, y]),
@@ -772,6 +790,39 @@ def hand_tests():
     expect(read(b"w 1 8 1 90 8 1 0 -1 wsum quad 3 < 4")[1], [0, 0, 0, 0, 3, 12, 27, 48])
     expect(read(b"w 1 3 1 90 3 1 0 -1 wsum lin 3 < 0")[1], [3, 6, 9])
     expect(read(b"w 1 3 1 90 3 1 0 -1 wsum hard 3 < 1000")[1], [0, 0, 0])
+
+
+def breaking_tests():
+    """Request M-108, by hand."""
+    def lent(text, plan, field, place, value):
+        [_, got] = lines(frame("lend", b"", 14, 14, field, place, value) + frame("price", text, len(plan), *plan))
+        return got
+    # network A, plan 110: 1, then 4 by variable 0, variables 1 and 2 add nothing, 9 by function 0, 13 by function 1
+    for constant, wanted in ((0, "function 1"), (1, "function 1"), (2, "function 0"), (6, "function 0"), (7, "unary 0"),
+                             (9, "unary 0"), (10, "constant")):
+        expect(lent(A, (1, 1, 0), 2, 0, constant), "done 10 " + wanted)
+    for k, wanted in ((5, "5 function 0"), (9, "9 function 0"), (10, "10 function 1"), (13, "13 function 1"), (14, "13 nowhere")):
+        expect(lent(A, (1, 1, 0), 1, 0, k), "done " + wanted)
+    # plan 111 is one short of k: one more, and it breaks at the last part that costs anything
+    expect(lent(A, (1, 1, 1), 2, 0, 2), "done 10 function 0")
+    for place, cost, wanted in ((1, 4, "function 0"), (3, 1, "function 0"), (5, 1, "function 0"), (9, 6, "function 0"),
+                                (13, 1, "function 1")):
+        expect(lent(A, (1, 1, 1), 9, place, cost), "done 10 " + wanted)
+    expect(lent(A, (1, 1, 1), 9, 12, 10), "done 9 nowhere")
+    # a text's own constant at k, with and without anything behind it, and one below
+    expect(one("price", b"x 0 0 1 7 0 7 0", 0), "done 7 constant")
+    expect(one("price", b"x 0 0 2 7 0 3 0 0 9 0", 0), "done 7 constant")
+    expect(one("price", b"x 0 0 1 7 0 6 0", 0), "done 6 nowhere")
+    expect(one("price", b"x 1 2 2 7 2 1 0 7 0 0 7 0", 1, 1), "done 7 constant")
+    # the order of the text is not the order of the parts: a function, then variable 1, then variable 0, each of k
+    expect(one("price", b"x 2 2 3 4 2 2 2 0 1 4 0 1 1 4 0 1 0 4 1 1 0", 2, 0, 0), "done 4 unary 0")
+    expect(one("price", b"x 2 2 3 4 2 2 2 0 1 4 0 1 1 4 0 1 0 4 1 1 0", 2, 1, 0), "done 4 unary 1")
+    expect(one("price", b"x 2 2 3 4 2 2 2 0 1 4 0 1 1 0 0 1 0 4 1 1 0", 2, 1, 0), "done 4 function 0")
+    # no part beside a refusal
+    expect(one("price", C, 1, 0), "done 5 unary 0")
+    expect(one("price", C, 1, 1), "refused 9 at 0")
+    expect(one("price", C, 2, 0), "refused 9 at 0")
+    expect(lent(C, (0,), 1, 0, 4), "refused 8 at 0")
 
 
 def reading_tests():
@@ -834,13 +885,13 @@ def frame_tests():
                 b"lend 0 1 1 9 1 0\n\n", b"pass 0" + 65 * b" 0" + b"\n\n", b"price 0 " + b"0" * 1017 + b"\n\n"):
         expect(list(lines(frame("read", B, 2) + bad)), ["done 9 0 1 2 0 table 4*1 6*1", "bad frame"])
     long = b"price 25" + 47 * (b" %020d" % 1) + 13 * b" 0"
-    expect(list(lines(long + b" 00\n" + B + b"\n")), ["done 6"])
+    expect(list(lines(long + b" 00\n" + B + b"\n")), ["done 6 nowhere"])
     expect(list(lines(long + b" 000\n" + B + b"\n")), ["bad frame"])
     # a lend reaches the next frame alone, and not a read
     lent = frame("lend", b"", 1, 9, 0, 0, 0)
     price_B, read_B = frame("price", B, 1, 0), frame("read", B, 2)
     expect(list(lines(lent + price_B + price_B + lent + read_B + price_B)),
-           ["lent", "refused 7 at 0", "done 4", "lent", "done 9 0 1 2 0 table 4*1 6*1", "done 4"])
+           ["lent", "refused 7 at 0", "done 4 nowhere", "lent", "done 9 0 1 2 0 table 4*1 6*1", "done 4 nowhere"])
     expect(list(lines(frame("lend", b"", 2, 2, 9, 1, 10) + price_B)), ["lent", "refused 8 at 0"])
     expect(list(lines(frame("lend", b"", 1, 2, 9, 0, 10) + price_B)), ["lent", "refused 8 at 0"])
     expect(list(lines(frame("lend", b"", 3, 1, 0, 0, 0) + frame("pass", B))), ["lent", "refused 7 at 0 work 0*1"])
@@ -867,7 +918,7 @@ def random_network(pick):
 
 
 def random_tests(rounds):
-    """Against brute force: the search's answer, the pass's promise, and that no accepted record lies."""
+    """Against brute force: where plans break, the search's answer, the pass's promise, and that no accepted record lies."""
     state = [12345]
 
     def pick(below):
@@ -879,6 +930,10 @@ def random_tests(rounds):
         plans = list(product(*[range(size) for size in net.sizes[:net.n]]))
         prices = {plan: cost_of(net, costs, plan) for plan in plans}
         best = min(prices.values())
+        for plan in plans:
+            names, paid = zip(*parts(net, costs, plan))
+            reached = [at for at in range(len(paid)) if sum(paid[:at + 1]) >= net.k]
+            expect(breaks_at(net, costs, plan), names[reached[0]] if reached else "nowhere")
         done, record = search(net, costs, costs, 10 ** 9, 1, 10 ** 9)
         expect(done.best, best)
         expect(done.plan, list(min(plan for plan in plans if prices[plan] == best)) if best < net.k else [])
@@ -907,7 +962,7 @@ def random_tests(rounds):
 
 
 def self_test():
-    for test in (hand_tests, reading_tests, record_tests, frame_tests):
+    for test in (hand_tests, breaking_tests, reading_tests, record_tests, frame_tests):
         test()
     random_tests(400)
     print("self-test passed")

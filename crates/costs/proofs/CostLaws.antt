@@ -4,7 +4,6 @@ use mathlib.Core.Path.{_≡_, refl}
 use mathlib.Core.Bool.{Bool, true, false, cond, not}
 use mathlib.Core.Logic.{_⊎_, inl, inr, ⊎-elim}
 use native.Mathlib.Omega.{arith}
-use native.Mathlib.Numerals.{add-one}
 use lib.Dec.{T, leb, leb→le, nleb→lt}
 use Rattle.costs.specs.Range.{sumTo}
 use Rattle.costs.specs.Cost.{plus, minus, plusTo}
@@ -38,12 +37,3 @@ shift-cap top c u a rest h = ⊎-elim (λ w. omega arith) (λ w. omega arith) (m
 pub plusTo-cap : (top first n : ℕ) (g : ℕ → ℕ) → plusTo top (plus top 0 first) n g ≡ min top (first + sumTo n g)
 plusTo-cap top first zero g = omega arith
 plusTo-cap top first (suc n) g = omega (arith, plusTo-cap top first n g)
-
--- at i + 1, as a loop has it
-pub plusTo-next : (top first i : ℕ) (g : ℕ → ℕ) → plusTo top first (i + 1) g ≡ plus top (plusTo top first i g) (g i)
-plusTo-next top first i g = rw add-one
-
--- in two turns
-pub plusTo-split : (top first m n : ℕ) (g : ℕ → ℕ) → plusTo top first (m + n) g ≡ plusTo top (plusTo top first m g) n (λ i. g (m + i))
-plusTo-split top first m zero g = let e : m + 0 ≡ m = omega arith in rw e
-plusTo-split top first m (suc n) g = let e : m + suc n ≡ suc (m + n) = omega arith in rw (e, plusTo-split top first m n g)

@@ -68,6 +68,10 @@ pub record IsPlan (n : Net) (p : ℕ → ℕ) : Type 0 where
 abbrev pub plans : Net → ℕ
 plans n = productTo (n .vars) (n .size)
 
+-- a plan's running sum: the constant ⊕ the costs that it touches in the first s parts
+abbrev pub runningSum : Net → Costs → (ℕ → ℕ) → ℕ → ℕ
+runningSum n c p s = plusTo (n .top) (plus (n .top) 0 (c .constant)) s (λ r. c .at (touched n p r))
+
 -- "Its price is the constant ⊕ its unary costs ⊕ its function costs"
 unfoldable pub price : Net → Costs → (ℕ → ℕ) → ℕ
-price n c p = plusTo (n .top) (plus (n .top) 0 (c .constant)) (n .parts) (λ s. c .at (touched n p s))
+price n c p = runningSum n c p (n .parts)

@@ -132,8 +132,8 @@ fn plan_fault<'a>(
         return Fault::At(HEADER_WORDS + bad);
     }
     let choice = plan_told(bytes, vars);
-    let price = price_of(sizes, scopes, starts, &choice, o, held);
-    if price != word_at(bytes, 3) {
+    let priced = price_of(sizes, scopes, starts, &choice, o, held);
+    if priced.price != word_at(bytes, 3) {
         return Fault::At(3);
     }
     Fault::Nowhere

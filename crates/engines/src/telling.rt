@@ -1,43 +1,81 @@
 // What a search tells at its end.
 ghost use mathlib.Core.Path.{_≡_};
-ghost use mathlib.Core.Bool.{true};
-ghost use Prim.Native.Nat.{_≤_};
+ghost use mathlib.Core.Bool.{true, false};
+ghost use Prim.Native.Nat.{_≤_, _<_};
 ghost use lib.Dec.{ltb};
+ghost use lib.ListN.{length};
 ghost use Rattle.costs.specs.Limits.{varsMost};
+ghost use Rattle.costs.specs.Net.{IsPlan, costsOf};
+ghost use Rattle.costs.specs.Networks.{netOf, Ready};
 ghost use Rattle.costs.specs.Cheapest.{valueIn};
 ghost use Rattle.costs.specs.Range.{listTo};
 ghost use Rattle.recorder.specs.ties.Splicing.{Behind, valuesOf};
-ghost use Rattle.engines.specs.ties.Progressing.{Told};
+ghost use Rattle.engines.specs.ties.Progressing.{costTold, Told};
 ghost use Rattle.engines.specs.Results.{planned, refusedSearch, finishedSearch};
 use crate::progress::Progress;
 use crate::results::Searched;
 use answers::Answer;
+use costs::limits::FUNCTIONS;
+use costs::limits::ROWS;
 use costs::limits::VARS;
 use costs::networks::Outline;
 use costs::plans::Plan;
+use prices::prices::price_of;
 use recorder::clear_from;
 use recorder::value_count;
 use recorder::write_record;
 
 // What is handed back after a search, with the record where one is asked for: refusals 11 and 12, in that order.
-pub fn tell(out: &mut [u8], plan: &[u8; VARS], done: Progress, o: Outline, asked: bool) -> Searched
-    requires { ⌜ (o .vars ≤ varsMost) × (asked ≡ true → Behind (now out) (done .spot)) ⌝ }
-    ensures { λ r. ⌜ Told o asked done (now (plan .entry)) (now (out .entry)) r (now (out .exit)) ⌝ }
+pub fn tell<'a>(
+    out: &mut [u8],
+    plan: &'a [u8; VARS],
+    held: &[u64],
+    sizes: &'a [u8; VARS],
+    scopes: &'a [u8; ROWS],
+    starts: &'a [usize; FUNCTIONS],
+    done: Progress,
+    o: Outline,
+    asked: bool,
+) -> Searched
+    requires { ⌜ Ready o (now sizes) (now scopes) (now starts) × (o .entries ≤ length (now held)) × (asked ≡ true → Behind (now out) (done .spot)) ⌝ }
+    requires { ⌜ (done .over ≡ false → done .best < o .top → IsPlan (netOf o (now sizes) (now scopes)) (valueIn (now plan))) ⌝ }
+    ensures { λ r. ⌜ Told o (now (sizes .entry)) (now (scopes .entry)) (now (held .entry)) asked done (now (plan .entry)) (now (out .entry)) r (now (out .exit)) ⌝ }
 {
     if done.over {
         clear_from(out, 0);
         return refused(Answer::OverBudget);
     }
     let found = below(done.best, o.top);
+    let cost = cost_of(plan, held, sizes, scopes, starts, o, found);
     if !asked {
         clear_from(out, 0);
-        return finished(plan, o.vars, found, done.best, done.nodes);
+        return finished(plan, o.vars, found, cost, done.nodes);
     }
-    let fits = write_record(out, plan, done.spot, o.vars, found, done.best);
+    let fits = write_record(out, plan, done.spot, o.vars, found, cost);
     if !fits {
         return refused(Answer::LongRecord);
     }
-    finished(plan, o.vars, found, done.best, done.nodes)
+    finished(plan, o.vars, found, cost, done.nodes)
+}
+
+// "The desk and the search use the same price answer": the cost that is told is that of the plan which was found; of none it is the bound.
+fn cost_of<'a>(
+    plan: &'a [u8; VARS],
+    held: &[u64],
+    sizes: &'a [u8; VARS],
+    scopes: &'a [u8; ROWS],
+    starts: &'a [usize; FUNCTIONS],
+    o: Outline,
+    found: bool,
+) -> u64
+    requires { ⌜ Ready o (now sizes) (now scopes) (now starts) × (o .entries ≤ length (now held)) × (found ≡ true → IsPlan (netOf o (now sizes) (now scopes)) (valueIn (now plan))) ⌝ }
+    ensures { λ r. ⌜ r ≡ costTold (netOf o (now (sizes .entry)) (now (scopes .entry))) (costsOf (o .constant) (now (held .entry))) found (now (plan .entry)) ⌝ }
+{
+    if !found {
+        return o.top;
+    }
+    let priced = price_of(sizes, scopes, starts, plan, o, held);
+    priced.price
 }
 
 // "Beside a refusal and its place, everything returned is zero."

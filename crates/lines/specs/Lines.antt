@@ -8,7 +8,7 @@ use Rattle.costs.specs.Limits.{varsMost}
 use Rattle.lines.specs.declared.Lines.{Lines}
 use Rattle.lines.specs.Numerals.{numeral, numeralMost}
 
--- the longest word is `refused `
+-- the longest word of a verdict or a refusal is `refused `
 abbrev pub wordMost : ℕ
 wordMost = 8
 

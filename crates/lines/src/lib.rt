@@ -15,7 +15,7 @@ use costs::plans::Plan;
 
 // A number of 64 bits has at most this many digits.
 const NUMERAL: usize = 20;
-// The longest word has this many bytes.
+// The longest word of a verdict or a refusal has this many bytes.
 const WORD: usize = 8;
 // Room for two words and a number, the choices of a plan, a word, a number and the line's end.
 pub const LINES: usize = WORD + NUMERAL + WORD + VARS * (1 + NUMERAL) + WORD + NUMERAL + 1;

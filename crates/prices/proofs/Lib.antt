@@ -1,2 +1,3 @@
+pub mod BreakLaws
 pub mod PriceLaws
 pub mod PriceCalls

@@ -1,6 +1,6 @@
 -- What `price` answers, in each of its four cases. Assumes nothing.
-use Prim.Native.Nat.{ℕ, _+_, _≤_, _<_}
-use mathlib.Core.Path.{_≡_, refl, sym, _∙_}
+use Prim.Native.Nat.{ℕ, _≤_, _<_}
+use mathlib.Core.Path.{_≡_, refl, sym}
 use mathlib.Core.Bool.{not}
 use mathlib.Core.List.{List}
 use native.Mathlib.Omega.{arith}
@@ -11,19 +11,17 @@ use Rattle.costs.specs.declared.networks.Network.{Network}
 use Rattle.costs.specs.declared.networks.Outline.{Outline}
 use Rattle.costs.specs.declared.plans.Plan.{Plan}
 use Rattle.prices.specs.declared.prices.Priced.{Priced}
-use Rattle.answers.specs.declared.Answer.the-variants.{Done, BadPlan}
+use Rattle.answers.specs.declared.Answer.the-variants.{BadPlan}
 use Rattle.judging.specs.declared.Judged.the-variants.{Fit, Refused}
 use Rattle.judging.specs.declared.Unfit.{Unfit}
-use Rattle.costs.specs.Cost.{plus, plusTo}
-use Rattle.costs.specs.Net.{entries, touched, price, costsOf}
+use Rattle.costs.specs.Net.{entries, costsOf}
 use Rattle.costs.specs.Networks.{netOf, Ready}
 use Rattle.costs.specs.Cheapest.{valueIn}
 use Rattle.judging.specs.Judging.{judged, refusalOf}
 use Rattle.prices.specs.Plans.{firstBad}
-use Rattle.prices.specs.Prices.{refusedPrice, planPriced, priced}
+use Rattle.prices.specs.Prices.{refusedPrice, planPrice, planPriced, priced}
 use Rattle.judging.proofs.JudgeLaws.{judged-passed}
 use Rattle.costs.proofs.RangeLaws.{firstTo-below}
-use Rattle.costs.proofs.CostLaws.{plusTo-split}
 
 module _ (net : Network) (t : List ℕ) (plan : Plan) where
   pub priced-refused : (why : Unfit) → judged net t (length t) ≡ Refused why → refusedPrice (refusalOf why) ≡ priced net t plan
@@ -40,10 +38,9 @@ module _ (net : Network) (t : List ℕ) (plan : Plan) where
       unfolding priced planPriced
       priced-value l = rw (passed, eq-eqb (plan .len) (net .vars) sized, ← is-bad, lt-ltb bad (net .vars) l)
 
-      pub priced-done : net .vars ≤ bad → (cost : ℕ) → cost ≡ price (netOf o (net .sizes) (net .scopes)) (costsOf (o .constant) t) (valueIn (plan .choice))
-          → _≡_ {A = Priced} (record { answer = Done; price = cost }) (priced net t plan)
+      pub priced-done : net .vars ≤ bad → (r : Priced) → r ≡ planPrice (netOf o (net .sizes) (net .scopes)) (costsOf (o .constant) t) (valueIn (plan .choice)) → r ≡ priced net t plan
       unfolding priced planPriced
-      priced-done l cost e =
+      priced-done l r e =
           let same = judged-passed net t (length t) o (sym passed) .outline in
           let f = rw same at e in
           rw (passed, eq-eqb (plan .len) (net .vars) sized, ← is-bad, le-ltb bad (net .vars) l, f)
@@ -54,15 +51,6 @@ pub priced-ready : (net : Network) (t : List ℕ) (o : Outline) → Fit o ≡ ju
 priced-ready net t o e =
     let passed = judged-passed net t (length t) o e in
     rw (passed .outline) (passed .network .ready, passed .roomy, refl)
-
--- the price in turns: the constant, the unary costs, the functions' costs
-pub price-in-turns : (o : Outline) (sizes rows t choice : List ℕ) (held unary cost : ℕ) → held ≡ plus (o .top) 0 (o .constant)
-    → unary ≡ plusTo (o .top) held (o .vars) (λ v. getD t (touched (netOf o sizes rows) (valueIn choice) v) 0)
-    → cost ≡ plusTo (o .top) unary (o .functions) (λ f. getD t (touched (netOf o sizes rows) (valueIn choice) (o .vars + f)) 0)
-    → cost ≡ price (netOf o sizes rows) (costsOf (o .constant) t) (valueIn choice)
-unfolding price
-price-in-turns o sizes rows t choice held unary cost a b c =
-    c ∙ rw (b, a) (sym (plusTo-split (o .top) (plus (o .top) 0 (o .constant)) (o .vars) (o .functions) (λ s. getD t (touched (netOf o sizes rows) (valueIn choice) s) 0)))
 
 -- where no value is bad the choices are a plan
 pub none-bad : (vars : ℕ) (sizes choice : List ℕ) → vars ≤ firstBad vars sizes choice → (v : ℕ) → v < vars → getD choice v 0 < getD sizes v 0

@@ -1,2 +1,5 @@
 pub mod Plans
+pub mod Breaks
 pub mod Prices
+pub mod Examples
+pub mod ties

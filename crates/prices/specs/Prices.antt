@@ -1,4 +1,4 @@
--- What `price` answers: 8, 7, 9, or the plan's price. "Beside a refusal and its place, everything returned is zero."
+-- What `price` answers: 8, 7, 9, or the plan's price and where it broke. "Beside a refusal and its place, everything returned is zero."
 use Prim.Native.Nat.{ℕ, _≤_}
 use mathlib.Core.Path.{_≡_}
 use mathlib.Core.Bool.{cond}
@@ -8,18 +8,24 @@ use lib.ListN.{length}
 use Rattle.costs.specs.declared.networks.Network.{Network}
 use Rattle.costs.specs.declared.plans.Plan.{Plan}
 use Rattle.prices.specs.declared.prices.Priced.{Priced}
+use Rattle.prices.specs.declared.breaks.Break.the-variants.{Nowhere}
 use Rattle.answers.specs.declared.Answer.{Answer}
 use Rattle.answers.specs.declared.Answer.the-variants.{Done, BadPlan}
 use Rattle.judging.specs.declared.Judged.{Judged}
 use Rattle.judging.specs.declared.Judged.the-variants.{Fit, Refused}
-use Rattle.costs.specs.Net.{IsPlan, entries, price, costsOf}
+use Rattle.costs.specs.Net.{Net, Costs, IsPlan, entries, price, costsOf}
 use Rattle.costs.specs.Networks.{stands}
 use Rattle.costs.specs.Cheapest.{valueIn}
 use Rattle.judging.specs.Judging.{judged, refusalOf, IsNetwork}
 use Rattle.prices.specs.Plans.{firstBad}
+use Rattle.prices.specs.Breaks.{brokeAt}
 
 abbrev pub refusedPrice : Answer → Priced
-refusedPrice a = record { answer = a; price = 0 }
+refusedPrice a = record { answer = a; price = 0; broke = Nowhere }
+
+-- of a plan that nothing stands against
+abbrev pub planPrice : Net → Costs → (ℕ → ℕ) → Priced
+planPrice n c p = record { answer = Done; price = price n c p; broke = brokeAt n c p }
 
 -- "plan of another length, or a value out of range": "first bad variable, or 0 for length"
 unfoldable pub planPriced : Network → List ℕ → Plan → Priced
@@ -27,7 +33,7 @@ planPriced net t plan =
     cond (eqb (plan .len) (net .vars))
     (cond (ltb (firstBad (net .vars) (net .sizes) (plan .choice)) (net .vars))
     (refusedPrice (BadPlan (firstBad (net .vars) (net .sizes) (plan .choice))))
-    (record { answer = Done; price = price (stands net) (costsOf (net .constant) t) (valueIn (plan .choice)) }))
+    (planPrice (stands net) (costsOf (net .constant) t) (valueIn (plan .choice))))
     (refusedPrice (BadPlan 0))
 
 abbrev pub afterJudge : Judged → Priced → Priced

@@ -1,5 +1,7 @@
-// The price of a plan. This file is the room's door.
+// The price of a plan, and where it broke. This file is the room's door.
+pub mod breaks;
 pub mod prices;
+mod sums;
 
 ghost use mathlib.Core.Path.{_≡_};
 ghost use Prim.Native.Nat.{_≤_};
@@ -20,7 +22,7 @@ use judging::Judged;
 use judging::judge;
 use judging::refusal;
 
-// The price of a plan: refusals 8, 7 and 9, in that order.
+// The price of a plan and where it broke: refusals 8, 7 and 9, in that order.
 pub fn price(net: Network, table: &[u64], plan: Plan) -> Priced
     ensures { λ r. ⌜ r ≡ priced net (now (table .entry)) plan ⌝ }
 {
@@ -75,11 +77,7 @@ fn priced_in<'a>(
     if bad < vars {
         return refused(Answer::BadPlan(bad));
     }
-    let cost = price_of(sizes, scopes, starts, choice, o, table);
-    Priced {
-        answer: Answer::Done,
-        price: cost,
-    }
+    price_of(sizes, scopes, starts, choice, o, table)
 }
 
 // The first variable whose value is not below its size, or their number.

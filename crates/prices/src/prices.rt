@@ -2,13 +2,16 @@
 ghost use mathlib.Core.Path.{_≡_};
 ghost use Prim.Native.Nat.{ℕ, _+_, _≤_, _<_};
 ghost use lib.ListN.{length, getD};
-ghost use Rattle.costs.specs.Cost.{plus, plusTo};
-ghost use Rattle.costs.specs.Net.{IsPlan, entry, entries, touched, costsOf, price};
+ghost use Rattle.costs.specs.Net.{IsPlan, entry, entries, costsOf};
 ghost use Rattle.costs.specs.Cheapest.{valueIn};
 ghost use Rattle.costs.specs.Networks.{Scoped, Ready, netOf, inRow, scopeIn};
-ghost use Rattle.prices.specs.Prices.{refusedPrice};
+ghost use Rattle.prices.specs.Prices.{refusedPrice, planPrice};
+ghost use Rattle.prices.specs.ties.Sums.{sumIn};
+use crate::breaks::Break;
+use crate::sums::Sum;
+use crate::sums::added;
+use crate::sums::begun;
 use answers::Answer;
-use costs::capped::plus_of;
 use costs::limits::FUNCTIONS;
 use costs::limits::ROWS;
 use costs::limits::VARS;
@@ -17,9 +20,11 @@ use costs::networks::byte_at;
 use costs::networks::row_at;
 use costs::networks::start_at;
 
+// The price answer.
 pub struct Priced {
     pub answer: Answer,
     pub price: u64,
+    pub broke: Break,
 }
 
 pub fn refused(answer: Answer) -> Priced
@@ -28,10 +33,11 @@ pub fn refused(answer: Answer) -> Priced
     Priced {
         answer: answer,
         price: 0,
+        broke: Break::Nowhere,
     }
 }
 
-// The price of a plan whose values are in range.
+// The price answer of a plan whose values are in range: the one price in the code, which the desk and every search ask too.
 pub fn price_of<'a>(
     sizes: &'a [u8; VARS],
     scopes: &'a [u8; ROWS],
@@ -39,15 +45,22 @@ pub fn price_of<'a>(
     choice: &'a [u8; VARS],
     o: Outline,
     table: &[u64],
-) -> u64
+) -> Priced
     requires { ⌜ Ready o (now sizes) (now scopes) (now starts) ⌝ }
     requires { ⌜ entries (netOf o (now sizes) (now scopes)) ≤ length (now table) ⌝ }
     requires { ⌜ IsPlan (netOf o (now sizes) (now scopes)) (valueIn (now choice)) ⌝ }
-    ensures { λ r. ⌜ r ≡ price (netOf o (now (sizes .entry)) (now (scopes .entry))) (costsOf (o .constant) (now (table .entry))) (valueIn (now (choice .entry))) ⌝ }
+    ensures { λ r. ⌜ r ≡ planPrice (netOf o (now (sizes .entry)) (now (scopes .entry))) (costsOf (o .constant) (now (table .entry))) (valueIn (now (choice .entry))) ⌝ }
 {
-    let held = plus_of(o.top, 0, o.constant);
-    let unary = with_unary(sizes, scopes, choice, o, table, held);
-    with_functions(sizes, scopes, starts, choice, o, table, unary)
+    let constant = begun(o.top, o.constant);
+    let unary = with_unary(sizes, scopes, choice, o, table, constant);
+    let whole = with_functions(sizes, scopes, starts, choice, o, table, unary);
+    let price = whole.price;
+    let broke = whole.broke;
+    Priced {
+        answer: Answer::Done,
+        price: price,
+        broke: broke,
+    }
 }
 
 // ⊕ the unary costs by variable.
@@ -57,12 +70,13 @@ fn with_unary<'a>(
     choice: &'a [u8; VARS],
     o: Outline,
     table: &[u64],
-    before: u64,
-) -> u64
+    before: Sum,
+) -> Sum
     requires { ⌜ Scoped (o .vars) (o .functions) (now sizes) (now scopes) ⌝ }
     requires { ⌜ entries (netOf o (now sizes) (now scopes)) ≤ length (now table) ⌝ }
     requires { ⌜ IsPlan (netOf o (now sizes) (now scopes)) (valueIn (now choice)) ⌝ }
-    ensures { λ r. ⌜ r ≡ plusTo (o .top) before (o .vars) (λ v. getD (now (table .entry)) (touched (netOf o (now (sizes .entry)) (now (scopes .entry))) (valueIn (now (choice .entry))) v) 0) ⌝ }
+    requires { ⌜ before ≡ sumIn o (now sizes) (now scopes) (now table) (now choice) 0 ⌝ }
+    ensures { λ r. ⌜ r ≡ sumIn o (now (sizes .entry)) (now (scopes .entry)) (now (table .entry)) (now (choice .entry)) (o .vars) ⌝ }
 {
     let vars = o.vars;
     let mut sum = before;
@@ -70,7 +84,7 @@ fn with_unary<'a>(
     let mut v: usize = 0;
     while v < vars {
         let value = byte_at(choice, v);
-        sum = plus_of(o.top, sum, table[start + value]);
+        sum = added(o.top, sum, table[start + value], Break::Unary(v));
         start += byte_at(sizes, v);
         v += 1;
     }
@@ -85,12 +99,13 @@ fn with_functions<'a>(
     choice: &'a [u8; VARS],
     o: Outline,
     table: &[u64],
-    before: u64,
-) -> u64
+    before: Sum,
+) -> Sum
     requires { ⌜ Ready o (now sizes) (now scopes) (now starts) ⌝ }
     requires { ⌜ entries (netOf o (now sizes) (now scopes)) ≤ length (now table) ⌝ }
     requires { ⌜ IsPlan (netOf o (now sizes) (now scopes)) (valueIn (now choice)) ⌝ }
-    ensures { λ r. ⌜ r ≡ plusTo (o .top) before (o .functions) (λ f. getD (now (table .entry)) (touched (netOf o (now (sizes .entry)) (now (scopes .entry))) (valueIn (now (choice .entry))) (o .vars + f)) 0) ⌝ }
+    requires { ⌜ before ≡ sumIn o (now sizes) (now scopes) (now table) (now choice) (o .vars) ⌝ }
+    ensures { λ r. ⌜ r ≡ sumIn o (now (sizes .entry)) (now (scopes .entry)) (now (table .entry)) (now (choice .entry)) (o .vars + o .functions) ⌝ }
 {
     let functions = o.functions;
     let mut sum = before;
@@ -98,7 +113,7 @@ fn with_functions<'a>(
     while f < functions {
         let entry = entry_of(sizes, scopes, choice, o.vars, o.functions, f);
         let at = start_at(starts, f) + entry;
-        sum = plus_of(o.top, sum, table[at]);
+        sum = added(o.top, sum, table[at], Break::Function(f));
         f += 1;
     }
     sum

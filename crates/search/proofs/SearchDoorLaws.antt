@@ -1,7 +1,7 @@
 -- The public call, as its code goes. Assumes nothing.
 use Prim.Native.Nat.{ℕ, _-_, _*_, _≤_, _<_, min}
 use mathlib.Core.Path.{_≡_, refl, sym, ap, _∙_, subst}
-use mathlib.Core.Bool.{Bool, true}
+use mathlib.Core.Bool.{Bool, true, false}
 use mathlib.Core.List.{List}
 use native.Mathlib.Omega.{arith}
 use lib.ListN.{length, getD, replicate}
@@ -10,9 +10,9 @@ use Rattle.costs.specs.declared.networks.Network.{Network}
 use Rattle.costs.specs.declared.networks.Outline.{Outline}
 use Rattle.costs.specs.Limits.{varsMost}
 use Rattle.costs.specs.Range.{sumTo}
-use Rattle.costs.specs.Net.{costsOf}
+use Rattle.costs.specs.Net.{IsPlan, costsOf}
 use Rattle.costs.specs.Networks.{netOf, Ready}
-use Rattle.costs.specs.Cheapest.{RightAnswer}
+use Rattle.costs.specs.Cheapest.{valueIn, RightAnswer}
 use Rattle.costs.proofs.TestLaws.{is-true}
 use Rattle.costs.proofs.RowLaws.{scoped-sound}
 use Rattle.judging.specs.declared.Judged.the-variants.{Fit, Refused}
@@ -31,7 +31,7 @@ use Rattle.engines.specs.Engines.{State, begin, budget}
 use Rattle.engines.specs.Results.{SearchLeft, refusedSearch, endedLeft}
 use Rattle.engines.specs.ties.Progressing.{Meets, beginning, Told}
 use Rattle.engines.proofs.ProgressLaws.{begin-meets}
-use Rattle.engines.proofs.TellingLaws.{answer-values, leaves-refused, leaves-told}
+use Rattle.engines.proofs.TellingLaws.{answer-plan, leaves-refused, leaves-told}
 use Rattle.search.specs.Doors.{searchOf, searchLeaves}
 use Rattle.visiting.specs.ties.Visiting.{Fixes, Enters, visited, Visits, searchedIn}
 use Rattle.visiting.proofs.FirstSearchRight.{first-answer}
@@ -76,12 +76,16 @@ module _ (o : Outline) (sizes rows starts held : List ℕ) (ready : Ready o size
         subst (λ (s : State). Meets asked (o .vars) x plan out′ s) visited-whole
         (visits (begin (o .top)) (subst (λ (y : Progress). Meets asked (o .vars) y rootBytes out (begin (o .top))) (sym begins) (begin-meets asked (o .top) (o .vars) out)))
 
-    pub search-told : 1 ≤ o .top → (r : Searched) (u : List ℕ) → length out′ ≡ length out → Told o asked x plan out′ r u
+    -- what a search that has not been ended tells its cost from is a plan
+    pub search-plan : 1 ≤ o .top → x .over ≡ false → x .best < o .top → IsPlan (netOf o sizes rows) (valueIn plan)
+    search-plan some goes below =
+        answer-plan (netOf o sizes rows) (scoped-sound o sizes rows (ready .scoped)) (costsOf (o .constant) held) asked x plan out′ (searchedIn o sizes rows held limit) done-meets
+        (searched-answers some limit (rw goes at (done-meets .ended))) below
+
+    pub search-told : 1 ≤ o .top → (r : Searched) (u : List ℕ) → length out′ ≡ length out → Told o sizes rows held asked x plan out′ r u
         → _≡_ {A = SearchLeft} (record { result = r; out = u }) (endedLeft (netOf o sizes rows) asked (length out) (searchedIn o sizes rows held limit))
     search-told some r u same told =
-        told sizes rows (searchedIn o sizes rows held limit) done-meets
-        (λ ended. answer-values (netOf o sizes rows) (costsOf (o .constant) held) asked x plan out′ (searchedIn o sizes rows held limit) done-meets (searched-answers some limit ended))
-        ∙ ap (λ (m : ℕ). endedLeft (netOf o sizes rows) asked m (searchedIn o sizes rows held limit)) same
+        told (searchedIn o sizes rows held limit) done-meets (searched-answers some limit) ∙ ap (λ (m : ℕ). endedLeft (netOf o sizes rows) asked m (searchedIn o sizes rows held limit)) same
 
 -- what the judge has told, where `room` is the shorter of the two tables
 module _ (net : Network) (held : List ℕ) (work out : ℕ) (asked : Bool) (limit room : ℕ) (shorter : room ≡ min (length held) work) where

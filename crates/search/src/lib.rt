@@ -129,5 +129,5 @@ fn search_at<'a>(
         start,
     );
     clear(work);
-    tell(out, &plan, done, o, asked)
+    tell(out, &plan, held, sizes, scopes, starts, done, o, asked)
 }

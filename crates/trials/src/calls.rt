@@ -12,6 +12,7 @@ use costs::limits::ROW;
 use costs::limits::VARS;
 use costs::networks::Network;
 use costs::plans::Plan;
+use prices::breaks::Break;
 use shifts::moves::Move;
 use shifts::nodes::Node;
 use showing::Which;
@@ -231,7 +232,26 @@ fn call_price(net: Network, held: &[u64], count: u64, choice: [u8; VARS]) {
     };
     let priced = prices::price(net, held, plan);
     let answer = priced.answer;
+    let broke = priced.broke;
     say_done(answer, priced.price);
+    if number(answer) == 0 {
+        say_break(broke);
+    }
+}
+
+fn say_break(broke: Break) {
+    match broke {
+        Break::Nowhere => say(OUT, b" nowhere"),
+        Break::Constant => say(OUT, b" constant"),
+        Break::Unary(v) => {
+            say(OUT, b" unary");
+            say_number(OUT, v as u64);
+        }
+        Break::Function(f) => {
+            say(OUT, b" function");
+            say_number(OUT, f as u64);
+        }
+    }
 }
 
 fn move_of(numbers: &[u64; NUMBERS]) -> Move {

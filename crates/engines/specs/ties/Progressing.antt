@@ -7,7 +7,9 @@ use lib.Dec.{ltb}
 use lib.ListN.{length, getD}
 use Rattle.answers.specs.declared.Answer.the-variants.{Done, OverBudget}
 use Rattle.costs.specs.declared.networks.Outline.{Outline}
+use Rattle.costs.specs.Net.{Net, Costs, costsOf, price}
 use Rattle.costs.specs.Networks.{netOf}
+use Rattle.costs.specs.Cheapest.{valueIn, RightAnswer}
 use Rattle.recorder.specs.ties.Splicing.{headerBytes, valuesOf, Written}
 use Rattle.engines.specs.declared.progress.Progress.{Progress}
 use Rattle.engines.specs.declared.results.Searched.{Searched}
@@ -37,7 +39,11 @@ beginning top room = record { best = top; nodes = 0; found = false; over = false
 abbrev pub endedProgress : Progress → Progress
 endedProgress x = record { best = x .best; nodes = x .nodes; found = x .found; over = true; spot = x .spot }
 
--- what is told of a progress, in every network of the outline and of every state that it stands for
-abbrev pub Told : Outline → Bool → Progress → List ℕ → List ℕ → Searched → List ℕ → Type 0
-Told o asked x plan out r out′ = (sizes rows : List ℕ) (s : State) → Meets asked (o .vars) x plan out s → (s .ended ≡ Done → s .plan ≡ valuesOf (o .vars) (ltb (x .best) (o .top)) plan)
+-- the cost that is told: the price of the plan that was found, or k
+abbrev pub costTold : Net → Costs → Bool → List ℕ → ℕ
+costTold n held found plan = cond found (price n held (valueIn plan)) (n .top)
+
+-- what is told of a progress, of every state that it stands for and whose answer, where the search has not been ended, is right
+abbrev pub Told : Outline → List ℕ → List ℕ → List ℕ → Bool → Progress → List ℕ → List ℕ → Searched → List ℕ → Type 0
+Told o sizes rows held asked x plan out r out′ = (s : State) → Meets asked (o .vars) x plan out s → (s .ended ≡ Done → RightAnswer (netOf o sizes rows) (costsOf (o .constant) held) (s .plan) (s .best))
     → record { result = r; out = out′ } ≡ endedLeft (netOf o sizes rows) asked (length out) s

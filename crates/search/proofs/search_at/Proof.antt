@@ -3,7 +3,7 @@ use lib.ListN.{length}
 use borrow.Author.Needs.{needs}
 use Rattle.tables.proofs.TableLaws.{cleared-at}
 use Rattle.engines.proofs.ProgressLaws.{spot-behind}
-use Rattle.search.proofs.SearchDoorLaws.{enters-root, done-meets, search-told}
+use Rattle.search.proofs.SearchDoorLaws.{enters-root, done-meets, search-plan, search-told}
 use Rattle.search.proofs.search_at.Statement.{statement}
 use Rattle.search.proofs.search_at.Tie as tie
 
@@ -32,7 +32,7 @@ tell-requires c κs =
     let s = g .args in
     let v = c .before .before .before .before .before .before .before .before .before .before .before .visit in
     let b = c .before .before .before .before .before .before .before .before .before .before .before .before .before .before .before .before .before .before .begin in
-    (g .pre .0 .scoped .vars-few, spot-behind (s .asked) (s .o .vars) (v .result) (v .last .1 .1 .1 .1 .0) (v .last .1 .1 .0) _ (done-meets (s .o) (s .sizes .now) (s .scopes .now) (s .starts .now) (s .held .now) (g .pre .0) (s .asked) (s .budget) (s .out .now) (b .result) (v .result) (v .last .1 .1 .1 .1 .0) (v .last .1 .1 .0) (b .ensures) (v .ensures .2)))
+    ((g .pre .0, g .pre .2, spot-behind (s .asked) (s .o .vars) (v .result) (v .last .1 .1 .1 .1 .0) (v .last .1 .1 .0) _ (done-meets (s .o) (s .sizes .now) (s .scopes .now) (s .starts .now) (s .held .now) (g .pre .0) (s .asked) (s .budget) (s .out .now) (b .result) (v .result) (v .last .1 .1 .1 .1 .0) (v .last .1 .1 .0) (b .ensures) (v .ensures .2))), search-plan (s .o) (s .sizes .now) (s .scopes .now) (s .starts .now) (s .held .now) (g .pre .0) (s .asked) (s .budget) (s .out .now) (b .result) (v .result) (v .last .1 .1 .1 .1 .0) (v .last .1 .1 .0) (b .ensures) (v .ensures .2) (g .pre .1))
 
 same-length : tie.Need-same-length
 same-length c = search needs

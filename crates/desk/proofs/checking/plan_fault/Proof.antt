@@ -7,7 +7,8 @@ use Rattle.costs.proofs.NetLaws.{price-same}
 use Rattle.costs.specs.Networks.{netOf}
 use Rattle.costs.specs.Net.{costsOf}
 use native.Mathlib.Omega.{arith}
-use mathlib.Core.Path.{_≡_, sym, _∙_}
+use mathlib.Core.Path.{_≡_, sym, ap, _∙_}
+use Rattle.prices.specs.declared.prices.Priced.{Priced}
 use Rattle.desk.proofs.checking.plan_fault.Statement.{statement}
 use Rattle.desk.proofs.checking.plan_fault.Tie as tie
 
@@ -61,19 +62,19 @@ word-at-requires-2 c κs = omega (arith, c .before .before .before .before .befo
 
 returns-3 : tie.Need-returns-3
 returns-3 c =
-    let s = c .before .before .before .before .before .before .before .before .before .before .before .args in
+    let s = c .before .before .before .before .before .before .before .before .before .before .before .before .args in
     let n = netOf (s .o) (s .sizes .now) (s .scopes .now) in
     let word = wordAt (s .bytes .now) in
-    let zero-verdict : word 2 ≡ 0 = sym (c .before .before .before .before .before .before .before .before .word-at .ensures) ∙ c .before .before .before .before .before .before .before .if1 .left in
-    plan-price n (costsOf (s .o .constant) (s .held .now)) word zero-verdict _ (c .before .before .before .before .before .before .first-bad-value .ensures) (c .before .before .before .before .before .if2 .left) _ (c .before .before .price-of .ensures ∙ price-same n (scoped-sound (s .o) (s .sizes .now) (s .scopes .now) (c .before .before .before .before .before .before .before .before .before .before .before .pre .0 .scoped)) (costsOf (s .o .constant) (s .held .now)) _ (told word) (c .before .before .before .before .plan-told .ensures)) (λ e. c .if3 .taken (e ∙ sym (c .before .word-at2 .ensures)))
+    let zero-verdict : word 2 ≡ 0 = sym (c .before .before .before .before .before .before .before .before .before .word-at .ensures) ∙ c .before .before .before .before .before .before .before .before .if1 .left in
+    plan-price n (costsOf (s .o .constant) (s .held .now)) word zero-verdict _ (c .before .before .before .before .before .before .before .first-bad-value .ensures) (c .before .before .before .before .before .before .if2 .left) _ (ap (λ (x : Priced). x .price) (c .before .before .before .price-of .ensures) ∙ price-same n (scoped-sound (s .o) (s .sizes .now) (s .scopes .now) (c .before .before .before .before .before .before .before .before .before .before .before .before .pre .0 .scoped)) (costsOf (s .o .constant) (s .held .now)) _ (told word) (c .before .before .before .before .before .plan-told .ensures)) (λ e. c .if3 .taken (e ∙ sym (c .before .before .word-at2 .ensures)))
 
 returns-4 : tie.Need-returns-4
 returns-4 c =
-    let s = c .before .before .before .before .before .before .before .before .before .before .before .args in
+    let s = c .before .before .before .before .before .before .before .before .before .before .before .before .args in
     let n = netOf (s .o) (s .sizes .now) (s .scopes .now) in
     let word = wordAt (s .bytes .now) in
-    let zero-verdict : word 2 ≡ 0 = sym (c .before .before .before .before .before .before .before .before .word-at .ensures) ∙ c .before .before .before .before .before .before .before .if1 .left in
-    plan-kept n (costsOf (s .o .constant) (s .held .now)) word zero-verdict _ (c .before .before .before .before .before .before .first-bad-value .ensures) (c .before .before .before .before .before .if2 .left) _ (c .before .before .price-of .ensures ∙ price-same n (scoped-sound (s .o) (s .sizes .now) (s .scopes .now) (c .before .before .before .before .before .before .before .before .before .before .before .pre .0 .scoped)) (costsOf (s .o .constant) (s .held .now)) _ (told word) (c .before .before .before .before .plan-told .ensures)) (c .if3 .left ∙ c .before .word-at2 .ensures)
+    let zero-verdict : word 2 ≡ 0 = sym (c .before .before .before .before .before .before .before .before .before .word-at .ensures) ∙ c .before .before .before .before .before .before .before .before .if1 .left in
+    plan-kept n (costsOf (s .o .constant) (s .held .now)) word zero-verdict _ (c .before .before .before .before .before .before .before .first-bad-value .ensures) (c .before .before .before .before .before .before .if2 .left) _ (ap (λ (x : Priced). x .price) (c .before .before .before .price-of .ensures) ∙ price-same n (scoped-sound (s .o) (s .sizes .now) (s .scopes .now) (c .before .before .before .before .before .before .before .before .before .before .before .before .pre .0 .scoped)) (costsOf (s .o .constant) (s .held .now)) _ (told word) (c .before .before .before .before .before .plan-told .ensures)) (c .if3 .left ∙ c .before .before .word-at2 .ensures)
 
 pub plan-fault-spec : {M : Type 1} → statement M
 plan-fault-spec =

@@ -1,0 +1,2 @@
+pub mod PriceLine
+pub mod Examples
