@@ -1,4 +1,6 @@
 // What holds of several rooms together: a search whose record the desk has checked.
+#![tactic(auto)]
+
 ghost use Rattle.std.specs.Prelude.{◌≡◌, ℕ, ◌+◌, ◌*◌, ◌≤◌, true, length, get_or};
 ghost use Rattle.answers.specs.declared.Answer.TheVariants.{Done};
 ghost use Rattle.records.specs.Words.{word_bytes};
@@ -30,7 +32,7 @@ pub fn search_and_check(
     out: &mut [u8],
     budget: u64,
 ) -> Checked
-    ensures* { λ r. ⌜ (record { result = r.found; out = out.new } ≡ search_leaves net held.now (length work.old) (length out.old) true budget) × (r.answer ≡ r.found.answer) × (r.found.answer ≡ Done → Filed net held.now (length work.old) out.new × CountsSteps out.new r.found.nodes) × ((j : ℕ) → get_or work.new j 0 ≡ 0) ⌝ }
+    ensures { (record { result = result.found; out = out.new } ≡ search_leaves net held.now (length work.old) (length out.old) true budget) × (result.answer ≡ result.found.answer) × (result.found.answer ≡ Done → Filed net held.now (length work.old) out.new × CountsSteps out.new result.found.nodes) × ((j : ℕ) → get_or work.new j 0 ≡ 0) }
 {
     let found = search(net, held, work, out, true, budget);
     let said = found.answer;

@@ -1,8 +1,10 @@
 // The one answer of every call: success, or one of the paper's thirteen refusals with its place.
+#![tactic(auto)]
+
 ghost use Rattle.std.specs.Prelude.{◌≡◌};
 ghost use Rattle.answers.specs.Answers.{number_of, place_of};
 
-#[derive(Drop)]
+#[derive(Clone, Copy)]
 pub enum Answer {
     Done,
     // 1: text over 65,536 bytes

@@ -1,4 +1,6 @@
 // The bound of a node: the constant after its pass, and the shifts that led there.
+#![tactic(auto)]
+
 pub mod noting;
 
 ghost use Rattle.std.specs.Prelude.{◌*◌, ◌-◌, ◌≤◌, ◌<◌, length};

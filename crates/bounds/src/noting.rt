@@ -33,7 +33,7 @@ fn note(notes: &mut [u64], count: usize, f: u64, i: u64, a: u64, m: u64)
 }
 
 // The constant after a pass, and how many shifts it made.
-#[derive(Drop)]
+#[derive(Clone, Copy)]
 pub struct Noted {
     pub constant: u64,
     pub count: usize,

@@ -188,7 +188,7 @@ box_on-value xs at d a change f l =
 
 pub box_least_cap : (xs : List Dim) (at top : ℕ) (f : ℕ → ℕ) → box_least xs at top f ≤ top
 unfolding box_least
-box_least_cap xs at top f = least_to_cap top _ _ (volume xs)
+box_least_cap xs at top f = least_to_cap top (in_box xs) (λ x. f (at + x)) (volume xs)
 
 pub box_least-value : (xs : List Dim) (at d a top : ℕ) (f : ℕ → ℕ) → a < d → box_least (range d a (a + 1) ∷ xs) at top f ≡ box_least xs (at + a * volume xs) top f
 box_least-value xs at d a top f l =

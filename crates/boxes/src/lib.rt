@@ -1,11 +1,13 @@
 // Boxes of a table: a span of values for each of up to three dimensions, the last changing fastest. One code for every arity. It knows no node and no shift.
+#![tactic(auto)]
+
 ghost use Rattle.std.specs.Prelude.{◌+◌, ◌*◌, ◌≤◌, ◌<◌, ◌≡◌, [], ◌∷◌, length};
 ghost use Rattle.boxes.specs.Ties.Boxes.{InSize, Sits, spanned, sides, cells, box_on, box_least, changed};
 
 use costs::capped::{lower, minus_of, plus_of};
 
 // Of `size` values those from `from` on, below `to`.
-#[derive(Drop)]
+#[derive(Clone, Copy)]
 pub struct Span {
     pub size: usize,
     pub from: usize,
@@ -13,7 +15,7 @@ pub struct Span {
 }
 
 // A span for each of three dimensions, the last changing fastest, from a place on. A missing dimension, in front, has one value.
-#[derive(Drop)]
+#[derive(Clone, Copy)]
 pub struct Block {
     pub at: usize,
     pub outer: Span,

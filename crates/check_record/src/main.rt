@@ -1,4 +1,6 @@
 // Checks a record against a network, each in a file that an argument names, and prints `accepted` or the refusal.
+#![tactic(auto)]
+
 use answers::{Answer, number};
 use console::{ERRORS, hand_over, read_in_argument, say};
 use costs::limits::ENTRIES;

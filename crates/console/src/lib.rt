@@ -1,4 +1,6 @@
 // What the programs share: inputs read whole, and the lines that they write, piece by piece.
+#![tactic(auto)]
+
 ghost use Rattle.io.specs.Counts.{IsPrefixLen};
 
 use answers::Answer;
@@ -13,7 +15,7 @@ pub const OUT: i32 = 1;
 pub const ERRORS: i32 = 2;
 
 // How many bytes came before the input ended or the buffer was full; a read that failed ends it too, and is told apart.
-#[derive(Drop)]
+#[derive(Clone, Copy)]
 pub struct Came {
     pub many: usize,
     pub failed: bool,

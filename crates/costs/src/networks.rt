@@ -26,7 +26,7 @@ pub struct Network {
 }
 
 // The numbers of a network that always travel together.
-#[derive(Drop)]
+#[derive(Clone, Copy)]
 pub struct Outline {
     // the bound k
     pub top: u64,

@@ -1,4 +1,6 @@
 // The record desk: whether a decision record keeps the rules. It stands on the price and shift rules alone. This file is the room's door.
+#![tactic(auto)]
+
 mod checking;
 mod headers;
 mod values;

@@ -1,4 +1,6 @@
 // What every search shares: its progress, and what it tells at its end.
+#![tactic(auto)]
+
 pub mod progress;
 pub mod results;
 pub mod telling;

@@ -14,7 +14,7 @@ use recorder::{Spot, note_branch, note_close};
 use records::layout::HEADER_BYTES;
 
 // How far the search has come. The best plan's values and the record's steps stand in lent buffers.
-#[derive(Drop)]
+#[derive(Clone, Copy)]
 pub struct Progress {
     pub best: u64,
     pub nodes: u64,

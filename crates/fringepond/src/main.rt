@@ -1,4 +1,6 @@
 // Reads a network from standard input and prints the verdict on it: the cheapest plan, "none", or a refusal.
+#![tactic(auto)]
+
 use console::{ERRORS, IN, hand_over, read_in, say};
 use reader::limits::TEXT;
 use verdict::verdict;

@@ -1,4 +1,6 @@
 // The costs of one function of a text, listed or a soft sum, into the function's own entries.
+#![tactic(auto)]
+
 ghost use Rattle.std.specs.Prelude.{◌≡◌, length};
 ghost use Rattle.tokens.specs.Tokens.{text_of};
 ghost use Rattle.tokens.specs.Ties.Outcomes.{pos_is, word_is};

@@ -1,4 +1,6 @@
 // The functions of a text, one after the other, each with its scope and its costs.
+#![tactic(auto)]
+
 ghost use Rattle.std.specs.Prelude.{◌≡◌, List, [], ◌∷◌, ℕ, ◌+◌, ◌≤◌, ◌<◌, length, get_or, take};
 ghost use Rattle.costs.specs.Limits.{functions_most, arity_most, entries_most};
 ghost use Rattle.tokens.specs.Tokens.{text_of};
@@ -21,7 +23,7 @@ use tokens::numbers::{Num, number_in};
 use tokens::words::Pos;
 
 // The numbers of the draft, and the position to read on from.
-#[derive(Drop)]
+#[derive(Clone, Copy)]
 pub enum Step {
     To(Outline, usize),
     Refused(Answer),

@@ -11,13 +11,13 @@ use costs::limits::{ENTRIES, SIZE, VARS};
 use tokens::numbers::{Num, number_in};
 
 // How many entries the unary stretches have, and the position after the sizes.
-#[derive(Drop)]
+#[derive(Clone, Copy)]
 pub struct Unary {
     pub entries: usize,
     pub next: usize,
 }
 
-#[derive(Drop)]
+#[derive(Clone, Copy)]
 pub enum Domains {
     Is(Unary),
     No(Answer),

@@ -10,7 +10,7 @@ use costs::limits::{COST, FUNCTIONS, SIZE, VARS};
 use tokens::numbers::{Num, number_in};
 use tokens::words::{Pos, read_name};
 
-#[derive(Drop)]
+#[derive(Clone, Copy)]
 pub struct Head {
     // N
     pub vars: usize,

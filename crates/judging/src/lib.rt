@@ -1,4 +1,6 @@
 // The judge of a network beside a table: refusals 8 and 7. Every call that is lent a network asks it first.
+#![tactic(auto)]
+
 ghost use Rattle.std.specs.Prelude.{◌≡◌, [], ◌∷◌, ℕ, ◌*◌, ◌≤◌, ◌<◌, length, get_or};
 ghost use Rattle.costs.specs.Limits.{vars_most, size_most, functions_most};
 ghost use Rattle.costs.specs.Range.{sum_to};
@@ -11,14 +13,14 @@ use costs::limits::{COST, ENTRIES, FUNCTIONS, ROWS, SIZE, VARS};
 use costs::networks::{Outline, byte_at, row_at, start_at, tuples_of};
 
 // Why numbers beside a table do not fit: 8, or 7.
-#[derive(Drop)]
+#[derive(Clone, Copy)]
 pub enum Unfit {
     NoNetwork,
     TooShort,
 }
 
 // The network's outline, or the refusal.
-#[derive(Drop)]
+#[derive(Clone, Copy)]
 pub enum Judged {
     Fit(Outline),
     Refused(Unfit),
@@ -191,7 +193,7 @@ fn three_good(vars: usize, x: usize, y: usize, z: usize) -> bool
     true
 }
 
-#[derive(Drop)]
+#[derive(Clone, Copy)]
 enum Stretched {
     EndAt(usize),
     Broken,

@@ -1,4 +1,6 @@
 // Lines of words and numbers, as the programs print them.
+#![tactic(auto)]
+
 ghost use Rattle.std.specs.Prelude.{◌≡◌, [], ◌++◌, ◌+◌, ◌≤◌, min, length};
 ghost use Rattle.costs.specs.Limits.{vars_most};
 ghost use Rattle.lines.specs.Numerals.{numeral, numeral_most};

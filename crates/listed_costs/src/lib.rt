@@ -1,4 +1,6 @@
 // Listed costs of one function: a default, and tuples with their costs.
+#![tactic(auto)]
+
 ghost use Rattle.std.specs.Prelude.{◌≡◌, map, ◌+◌, ◌*◌, ◌≤◌, length, get_or, set};
 ghost use Rattle.costs.specs.Limits.{entries_most};
 ghost use Rattle.tokens.specs.Tokens.{text_of};
@@ -18,13 +20,13 @@ use tokens::words::Pos;
 const UNLISTED: u64 = 0xffff_ffff_ffff_ffff;
 
 // A tuple's entry, and the position after its values.
-#[derive(Drop)]
+#[derive(Clone, Copy)]
 pub struct Entry {
     pub index: u64,
     pub next: usize,
 }
 
-#[derive(Drop)]
+#[derive(Clone, Copy)]
 pub enum Tuple {
     Is(Entry),
     No(Answer),

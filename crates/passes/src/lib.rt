@@ -1,4 +1,6 @@
 // The bounding pass. This file is the room's door.
+#![tactic(auto)]
+
 pub mod passing;
 
 ghost use Rattle.std.specs.Prelude.{◌≤◌, ◌≡◌, length};

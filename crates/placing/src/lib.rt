@@ -1,5 +1,7 @@
 // Where a function's costs belong in the draft of a network: in the constant, in a variable's unary stretch, or in a stretch of their own. It
 // knows no text, so whatever reads functions can place them by it.
+#![tactic(auto)]
+
 ghost use Rattle.std.specs.Prelude.{◌≡◌, List, [], ◌∷◌, ℕ, ◌+◌, ◌*◌, ◌≤◌, ◌<◌, length, get_or, set, take};
 ghost use Rattle.costs.specs.Limits.{vars_most, size_most, functions_most, arity_most, entries_most};
 ghost use Rattle.placing.specs.Drafts.{sums, unary_start, row_set, put};

@@ -1,5 +1,7 @@
 // Prices a plan in a network, which stands in a file that an argument names; the plan's values are the arguments after it. Prints the price and the
 // part at which the plan broke, or the refusal.
+#![tactic(auto)]
+
 ghost use Rattle.std.specs.Prelude.{◌≡◌, ◌≤◌, ◌<◌, ◌++◌};
 ghost use Rattle.lines.specs.Lines.{head_most, lines_most, written};
 ghost use Rattle.price_plan.specs.PriceLine.{break_words, price_line};
@@ -24,7 +26,7 @@ const NETWORK: usize = 1;
 const FIRST: usize = 2;
 
 // What an argument after the network's is: a value, or none.
-#[derive(Drop)]
+#[derive(Clone, Copy)]
 enum Value {
     Is(u8),
     Bad,

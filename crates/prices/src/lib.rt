@@ -1,4 +1,6 @@
 // The price of a plan, and where it broke. This file is the room's door.
+#![tactic(auto)]
+
 pub mod breaks;
 pub mod prices;
 mod sums;

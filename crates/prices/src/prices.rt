@@ -13,7 +13,7 @@ use costs::limits::{FUNCTIONS, ROWS, VARS};
 use costs::networks::{Outline, byte_at, row_at, start_at};
 
 // The price answer.
-#[derive(Drop)]
+#[derive(Clone, Copy)]
 pub struct Priced {
     pub answer: Answer,
     pub price: u64,

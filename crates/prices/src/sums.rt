@@ -6,7 +6,7 @@ use crate::breaks::Break;
 use costs::capped::plus_of;
 
 // What the costs so far come to, and where they broke.
-#[derive(Drop)]
+#[derive(Clone, Copy)]
 pub struct Sum {
     pub price: u64,
     pub broke: Break,

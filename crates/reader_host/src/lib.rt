@@ -1,4 +1,6 @@
 // The reader as C and Rust hosts call it, to be timed beside readers that are not Rattle.
+#![tactic(auto)]
+
 ghost use Rattle.std.specs.Prelude.{◌≡◌, length};
 ghost use Rattle.answers.specs.Answers.{number_of};
 ghost use Rattle.reader.specs.Reading.{reading, answered, table_after};

@@ -1,4 +1,6 @@
 // A record's words and steps, written into a lent buffer.
+#![tactic(auto)]
+
 ghost use Rattle.std.specs.Prelude.{◌≡◌, false, cond, List, [], ◌∷◌, ◌++◌, map, ◌+◌, ◌-◌, ◌*◌, ◌≤◌, length, take, drop, replicate};
 ghost use Rattle.costs.specs.Limits.{vars_most};
 ghost use Rattle.recorder.specs.Ties.Noted.{note_size, noted_move, moves_in};
@@ -19,7 +21,7 @@ use records::layout::{HEADER_BYTES, HEADER_WORDS, STEP_BYTES, WORD_BYTES};
 pub const NOTE: usize = 4;
 
 // Where the next step goes, or that there was no room for one.
-#[derive(Drop)]
+#[derive(Clone, Copy)]
 pub struct Spot {
     pub at: usize,
     pub full: bool,

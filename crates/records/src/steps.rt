@@ -4,7 +4,7 @@ ghost use Rattle.records.specs.Steps.{all_zero, spelt_if, step_of};
 
 use shifts::moves::Move;
 
-#[derive(Drop)]
+#[derive(Clone, Copy)]
 pub enum Step {
     // a variable that is not yet fixed
     Branch(usize),
@@ -13,7 +13,7 @@ pub enum Step {
 }
 
 // What five words spell.
-#[derive(Drop)]
+#[derive(Clone, Copy)]
 pub enum Spelt {
     One(Step),
     Nothing,

@@ -1,4 +1,6 @@
 // A function's scope, read, and the sizes of its variables.
+#![tactic(auto)]
+
 ghost use Rattle.std.specs.Prelude.{◌≡◌, [], ◌*◌, ◌≤◌, length, get_or, take};
 ghost use Rattle.costs.specs.Limits.{size_most, arity_most, entries_most};
 ghost use Rattle.costs.specs.Tests.{among};

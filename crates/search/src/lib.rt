@@ -1,4 +1,6 @@
 // The search and its record. This file is the room's door.
+#![tactic(auto)]
+
 ghost use Rattle.std.specs.Prelude.{◌≡◌, ℕ, ◌≤◌, length, get_or};
 ghost use Rattle.costs.specs.Networks.{net_of, Ready};
 ghost use Rattle.engines.specs.Results.{SearchLeft, ended_left};
@@ -26,7 +28,7 @@ pub fn search(
     asked: bool,
     budget: u64,
 ) -> Searched
-    ensures* { λ r. ⌜ (record { result = r; out = out.new } ≡ search_leaves net held.now (length work.old) (length out.old) asked budget) × ((j : ℕ) → get_or work.new j 0 ≡ 0) ⌝ }
+    ensures { (record { result = result; out = out.new } ≡ search_leaves net held.now (length work.old) (length out.old) asked budget) × ((j : ℕ) → get_or work.new j 0 ≡ 0) }
 {
     search_in(
         work,
@@ -59,7 +61,7 @@ fn search_in<'a>(
     asked: bool,
     budget: u64,
 ) -> Searched
-    ensures* { λ r. ⌜ (record { result = r; out = out.new } ≡ search_leaves (record { top = top; constant = constant; vars = vars; sizes = sizes.now; functions = functions; scopes = scopes.now; starts = starts.now }) held.now (length work.old) (length out.old) asked budget) × ((j : ℕ) → get_or work.new j 0 ≡ 0) ⌝ }
+    ensures { (record { result = result; out = out.new } ≡ search_leaves (record { top = top; constant = constant; vars = vars; sizes = sizes.now; functions = functions; scopes = scopes.now; starts = starts.now }) held.now (length work.old) (length out.old) asked budget) × ((j : ℕ) → get_or work.new j 0 ≡ 0) }
 {
     let room = shorter(held.len(), work.len());
     let o = match judge(
@@ -88,7 +90,7 @@ fn search_at<'a>(
     budget: u64,
 ) -> Searched
     requires { Ready o sizes.now scopes.now starts.now × (1 ≤ o.top) × (o.entries ≤ length held.now) × (o.entries ≤ length work.old) }
-    ensures* { λ r. ⌜ (record { result = r; out = out.new } ≡ ended_left (net_of o sizes.now scopes.now) asked (length out.old) (searched_in o sizes.now scopes.now held.now budget)) × ((j : ℕ) → get_or work.new j 0 ≡ 0) ⌝ }
+    ensures { (record { result = result; out = out.new } ≡ ended_left (net_of o sizes.now scopes.now) asked (length out.old) (searched_in o sizes.now scopes.now held.now budget)) × ((j : ℕ) → get_or work.new j 0 ≡ 0) }
 {
     let firsts = unary_starts(sizes, o.vars);
     let mut notes = [0u64; NOTES];

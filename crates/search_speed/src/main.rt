@@ -1,12 +1,14 @@
 // The search on networks of three shapes, five of each, drawn by a fixed recurrence with costs below 50. A line for each: the cost and the nodes. stdout is what
 // hosts/search_speed/ordinary.rs prints, the ordinary search on the same networks that the time of this one is measured against.
+#![tactic(auto)]
+
 ghost use Rattle.std.specs.Prelude.{◌≤◌, ◌<◌};
 ghost use Rattle.costs.specs.Limits.{entries_most};
 
 use costs::limits::{ENTRIES, FUNCTIONS, ROWS, VARS};
 use costs::networks::Network;
 
-#[derive(Drop)]
+#[derive(Clone, Copy)]
 struct Shape {
     // N, and the size of each domain
     vars: usize,

@@ -1,4 +1,6 @@
 // Makes a shift where it is legal. This file is the room's door.
+#![tactic(auto)]
+
 pub mod moves;
 
 ghost use Rattle.std.specs.Prelude.{◌≤◌, ◌≡◌, length};

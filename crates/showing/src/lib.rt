@@ -1,5 +1,7 @@
 // The shown part of a lent table: "Asked for the held or the worked costs of a function, the desk shows that stretch of the lent table itself". This file is the
 // room's door.
+#![tactic(auto)]
+
 mod stretches;
 
 ghost use Rattle.std.specs.Prelude.{◌≡◌};
@@ -9,7 +11,7 @@ use crate::stretches::{may_show, part_of};
 use costs::networks::{Network, start_at, tuples_of};
 
 // The held costs, or those that are worked on.
-#[derive(Drop)]
+#[derive(Clone, Copy)]
 pub enum Which {
     Held,
     Worked,

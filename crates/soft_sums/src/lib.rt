@@ -1,4 +1,6 @@
 // The soft sum: what follows `wsum`.
+#![tactic(auto)]
+
 pub mod limits;
 
 ghost use Rattle.std.specs.Prelude.{◌≡◌, cond, ◌+◌, ◌-◌, ◌≤◌, eqb, length};
@@ -23,7 +25,7 @@ const MODES: u64 = 3;
 const COMPARATORS: u64 = 6;
 
 // M
-#[derive(Drop)]
+#[derive(Clone, Copy)]
 pub enum Mode {
     Hard,
     Lin,
@@ -31,7 +33,7 @@ pub enum Mode {
 }
 
 // C
-#[derive(Drop)]
+#[derive(Clone, Copy)]
 pub enum Comparator {
     Equal,
     Unequal,
@@ -42,7 +44,7 @@ pub enum Comparator {
 }
 
 // M, base, C and K.
-#[derive(Drop)]
+#[derive(Clone, Copy)]
 pub struct Soft {
     pub mode: Mode,
     pub base: u64,
@@ -51,7 +53,7 @@ pub struct Soft {
 }
 
 // The soft sum, and the position after it.
-#[derive(Drop)]
+#[derive(Clone, Copy)]
 pub enum SoftRead {
     Is(Soft, usize),
     No(Answer),

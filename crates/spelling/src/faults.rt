@@ -1,6 +1,6 @@
 // Where a record breaks a rule.
 
-#[derive(Drop)]
+#[derive(Clone, Copy)]
 pub enum Fault {
     Nowhere,
     // the number of the word

@@ -1,4 +1,6 @@
 // The steps of a record: whether they spell one tree and keep its rules. It stands on the shift rules alone.
+#![tactic(auto)]
+
 pub mod faults;
 pub mod steps;
 mod trees;

@@ -1,4 +1,6 @@
 // The stretch of one function: how many entries variables of these sizes have, and what reads bytes and fills entries for it.
+#![tactic(auto)]
+
 ghost use Rattle.std.specs.Prelude.{◌≡◌, length, get_or, replicate};
 ghost use Rattle.stretches.specs.Sizes.{product};
 ghost use Rattle.stretches.specs.Ties.Small.{Small};

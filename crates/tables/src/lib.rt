@@ -1,4 +1,6 @@
 // Lent tables: the shorter of two lengths, zeros throughout, and the first entries of another.
+#![tactic(auto)]
+
 ghost use Rattle.std.specs.Prelude.{◌≡◌, ◌++◌, ◌≤◌, min, length, take, drop, replicate};
 
 pub fn shorter(a: usize, b: usize) -> usize

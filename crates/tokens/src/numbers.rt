@@ -9,14 +9,14 @@ use crate::tokens::{bytes_of, next_token};
 use answers::Answer;
 
 // What a run of bytes is as a number.
-#[derive(Drop)]
+#[derive(Clone, Copy)]
 pub enum Digits {
     Value(u64),
     Not,
 }
 
 // A number that was read: its value, its place and the position after it.
-#[derive(Drop)]
+#[derive(Clone, Copy)]
 pub struct Seen {
     pub value: u64,
     pub place: usize,
@@ -24,7 +24,7 @@ pub struct Seen {
 }
 
 // What reading a number finds.
-#[derive(Drop)]
+#[derive(Clone, Copy)]
 pub enum Num {
     Is(Seen),
     No(Answer),

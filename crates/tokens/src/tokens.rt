@@ -3,7 +3,7 @@ ghost use Rattle.std.specs.Prelude.{◌≡◌, ◌≤◌, ◌<◌, length};
 ghost use Rattle.tokens.specs.Tokens.{white, dark, past, token_at, token_bytes};
 
 // From start up to end. No token is left where the two are equal.
-#[derive(Drop)]
+#[derive(Clone, Copy)]
 pub struct Token {
     pub start: usize,
     pub end: usize,

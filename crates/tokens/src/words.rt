@@ -9,27 +9,27 @@ use crate::tokens::{Token, bytes_of, next_token};
 use answers::Answer;
 
 // A position to read on from.
-#[derive(Drop)]
+#[derive(Clone, Copy)]
 pub enum Pos {
     At(usize),
     Refused(Answer),
 }
 
 // Which word of some a token is, and the position after it.
-#[derive(Drop)]
+#[derive(Clone, Copy)]
 pub struct Found {
     pub index: u64,
     pub next: usize,
 }
 
-#[derive(Drop)]
+#[derive(Clone, Copy)]
 pub enum Word {
     Is(Found),
     No(Answer),
 }
 
 // Whether the next token is a word, and the position to read on from.
-#[derive(Drop)]
+#[derive(Clone, Copy)]
 pub struct Follows {
     pub found: bool,
     pub next: usize,

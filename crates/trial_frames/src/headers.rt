@@ -13,7 +13,7 @@ pub const RECORD: usize = 400_000;
 // "header line 1,024 bytes"
 const LINE: usize = 1_024;
 
-#[derive(Drop)]
+#[derive(Clone, Copy)]
 pub enum Call {
     // the input has ended
     Over,
@@ -38,20 +38,20 @@ pub struct Header {
 }
 
 // The bytes of a line before its end.
-#[derive(Drop)]
+#[derive(Clone, Copy)]
 enum Line {
     Over,
     CutOff,
     Of(usize),
 }
 
-#[derive(Drop)]
+#[derive(Clone, Copy)]
 enum Count {
     Bad,
     Of(usize),
 }
 
-#[derive(Drop)]
+#[derive(Clone, Copy)]
 enum Number {
     Bad,
     Of(u64),

@@ -11,7 +11,7 @@ use judging::{Judged, judge};
 // What stands in a table's entry before anybody has written it.
 pub const UNWRITTEN: u64 = 77;
 
-#[derive(Drop)]
+#[derive(Clone, Copy)]
 pub struct Lent {
     // whether the frame before this one was a `lend`
     pub asked: bool,
@@ -23,7 +23,7 @@ pub struct Lent {
 }
 
 // How many entries the held and the working table have.
-#[derive(Drop)]
+#[derive(Clone, Copy)]
 pub struct Lengths {
     pub held: usize,
     pub work: usize,

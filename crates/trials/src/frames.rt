@@ -5,7 +5,7 @@ use trial_frames::headers::{Call, fits, read_header, record_length, text_length}
 use trial_frames::lending::{Lent, lent_by, nothing_lent};
 
 // What a frame leaves to the next one.
-#[derive(Drop)]
+#[derive(Clone, Copy)]
 pub struct Next {
     pub more: bool,
     pub lent: Lent,

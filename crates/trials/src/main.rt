@@ -1,5 +1,7 @@
 // Every public call on framed cases: reads frames from standard input until its end and writes one line for each. docs/TRIALS.md has the frames and the
 // lines.
+#![tactic(auto)]
+
 mod calls;
 mod frames;
 

@@ -1,4 +1,6 @@
 // The verdict on a text, in the lines that document 01 prints.
+#![tactic(auto)]
+
 ghost use Rattle.std.specs.Prelude.{◌≡◌, ◌+◌, ◌≤◌};
 ghost use Rattle.lines.specs.Lines.{head_most, choices_most, lines_most, written};
 ghost use Rattle.verdict.specs.Verdicts.{outcome_lines, searched_lines, printed};

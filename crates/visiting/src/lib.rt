@@ -1,4 +1,6 @@
 // The search over the tree of nodes: a recursion over the depth with a loop over the values.
+#![tactic(auto)]
+
 ghost use Rattle.std.specs.Prelude.{◌≡◌, true, ◌+◌, ◌<◌, length, set};
 ghost use Rattle.costs.specs.Limits.{vars_most, size_most};
 ghost use Rattle.engines.specs.Ties.Progressing.{nodes_most};
@@ -71,7 +73,7 @@ pub fn visit<'a>(
 }
 
 // How far a look at a node leads, and whether the node is branched.
-#[derive(Drop)]
+#[derive(Clone, Copy)]
 struct Seen {
     progress: Progress,
     branched: bool,

@@ -1,5 +1,7 @@
 // Reads a network from standard input, searches it and writes the decision record to standard output. Whatever else there is to say goes to standard
 // error, so that what a refusal leaves on standard output is no record.
+#![tactic(auto)]
+
 use answers::{Answer, number};
 use console::{ERRORS, IN, hand_over, read_in, say, say_refusal};
 use costs::limits::{ENTRIES, VARS};
