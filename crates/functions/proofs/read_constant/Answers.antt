@@ -6,14 +6,11 @@ use mathlib.Core.Path.{refl, sym}
 use Rattle.functions.proofs.read_constant.Goals as goal
 
 pub read_costs-requires : goal.read_costs-requires
-read_costs-requires c = rw c.requires (small_none, sym no_product)
+read_costs-requires c = rw c.requires (record { small = small_none; cells_len = sym no_product })
 
 pub returns-in-At : goal.returns-in-At
 returns-in-At c = let a = c.args in
-    rw c.put_constant.ensures (
-      (λ sizes scopes starts work. placed_at (draft_of a.o sizes scopes starts work) [] _ _ _ c.read_costs.ensures _ c.in-At.is),
-      (refl, omega arith, omega arith, omega arith),
-    )
+    rw c.put_constant.ensures (record { work_value = (λ sizes scopes starts work. placed_at (draft_of a.o sizes scopes starts work) [] _ _ _ c.read_costs.ensures _ c.in-At.is); counted = (refl, omega arith, omega arith, omega arith) })
 
 pub returns-in-Refused : goal.returns-in-Refused
 returns-in-Refused c = record {

@@ -20,7 +20,7 @@ read_costs-requires c = let a = c.args in
     let m = c.byte_in-many.result in
     let l : m ≤ size_most = omega (arith, c.byte_in-many.ensures, c.requires.begun.ranged.small a.x) in
     let e : m - 0 ≡ get_or a.sizes.now a.x 0 = omega (arith, c.byte_in-many.ensures) in
-    rw c.requires.x_lt_vars.2 (small_one _ (c.requires.begun.ranged.sized _ c.requires.x_lt_vars.0) (c.requires.begun.ranged.small _), mid_len 0 m (replicate size_most 0) l ∙ e ∙ sym (one_product _))
+    rw c.requires.x_lt_vars.2 (record { small = small_one _ (c.requires.begun.ranged.sized _ c.requires.x_lt_vars.0) (c.requires.begun.ranged.small _); cells_len = mid_len 0 m (replicate size_most 0) l ∙ e ∙ sym (one_product _) })
 
 pub slice_bounds-put_unary-end : goal.slice_bounds-put_unary-end
 slice_bounds-put_unary-end c = sym (same_len_mid 0 (c.byte_in-many.result - 0) (replicate size_most 0) c.read_costs.new.cells c.read_costs.auto.cells)

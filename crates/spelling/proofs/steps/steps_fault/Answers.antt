@@ -54,7 +54,7 @@ returns-then-not-taken c = let s = c.args in
     steps_refused r at k.left k.w k.place h.costs c.loop-left-test.true c.if-place.false _ (sym c.step_at.ensures ∙ c.in-One.is) (sym took.allowed_is ∙ not-true _ c.if-not-taken.true) ∙ sym h.same
 
 pub overflow_add-w : goal.overflow_add-w
-overflow_add-w c = omega (arith, c.loop-left.invariant.1, c.requires.word_bytes_in_bounds, c.well-formed.1.1.0)
+overflow_add-w c = omega (arith, c.loop-left.invariant.1, c.requires.word_bytes_in_bounds, c.well_formed.1.1.0)
 
 pub loop-left-smaller : goal.loop-left-smaller
 loop-left-smaller c = omega arith
