@@ -1,7 +1,6 @@
 use lib.ListN.{take}
 use native.Mathlib.Omega.{arith}
 use Rattle.lines.proofs.LineLaws.{put_none, put_more, put_all}
-use Prim.Native.Nat.{◌-◌}
 use borrow.Author.Rules.{rules}
 use Rattle.lines.proofs.with_word.Goals as goal
 
