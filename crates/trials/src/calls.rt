@@ -8,9 +8,9 @@ use prices::breaks::Break;
 use shifts::moves::Move;
 use shifts::nodes::Node;
 use showing::Which;
+use std::io::Stdout;
 use trial_frames::headers::{Call, Header, NUMBERS, RECORD, ROOM};
 use trial_frames::lending::{Lent, UNWRITTEN, byte_of, lengths_lent, replace_entry, replaced};
-use std::io::Stdout;
 use trial_frames::lines::{say_byte_runs, say_done, say_runs, wide};
 
 // A record's buffer before the search.
@@ -116,7 +116,8 @@ fn answer_of_network(out: &Stdout, header: Header, text: &[u8], record: &[u8], l
 
 // "after reading one number is replaced by value"; the worked table that is shown "is made first".
 fn make_lent(
-    out: &Stdout, header: Header,
+    out: &Stdout,
+    header: Header,
     read: Network,
     held: &mut [u64; ROOM],
     work: &mut [u64; ROOM],
@@ -130,7 +131,16 @@ fn make_lent(
     }
     let net = replaced(read, lent);
     replace_entry(held, lent, 9);
-    cut(out, header, net, held, lengths.held, work, lengths.work, record);
+    cut(
+        out,
+        header,
+        net,
+        held,
+        lengths.held,
+        work,
+        lengths.work,
+        record,
+    );
 }
 
 fn asks_to_show(header: Header) -> bool {
@@ -149,7 +159,8 @@ fn pass_free(net: Network, held: &[u64; ROOM], work: &mut [u64; ROOM]) {
 
 // Lends as much of each table as was asked for, which a header that fits keeps within its room.
 fn cut(
-    out: &Stdout, header: Header,
+    out: &Stdout,
+    header: Header,
     net: Network,
     held: &mut [u64],
     held_length: usize,
@@ -164,7 +175,8 @@ fn cut(
         return;
     }
     make(
-        out, header,
+        out,
+        header,
         net,
         &mut held[..held_length],
         &mut work[..work_length],
@@ -173,7 +185,14 @@ fn cut(
 }
 
 // Makes the call on the tables that are lent.
-fn make(out: &Stdout, header: Header, net: Network, held: &mut [u64], work: &mut [u64], record: &[u8]) {
+fn make(
+    out: &Stdout,
+    header: Header,
+    net: Network,
+    held: &mut [u64],
+    work: &mut [u64],
+    record: &[u8],
+) {
     let call = header.call;
     let many = header.many;
     let numbers = header.numbers;
@@ -281,10 +300,19 @@ fn call_pass(out: &Stdout, net: Network, held: &[u64], work: &mut [u64], fixed: 
     say_runs(out, work);
 }
 
-fn call_search(out: &Stdout, net: Network, held: &[u64], work: &mut [u64], budget: u64, asked: u64, room: u64) {
+fn call_search(
+    out: &Stdout,
+    net: Network,
+    held: &[u64],
+    work: &mut [u64],
+    budget: u64,
+    asked: u64,
+    room: u64,
+) {
     let mut buffer = [UNWRITTEN_BYTE; RECORD];
     search_into(
-        out, net,
+        out,
+        net,
         held,
         work,
         &mut buffer,
@@ -295,7 +323,8 @@ fn call_search(out: &Stdout, net: Network, held: &[u64], work: &mut [u64], budge
 }
 
 fn search_into(
-    out: &Stdout, net: Network,
+    out: &Stdout,
+    net: Network,
     held: &[u64],
     work: &mut [u64],
     whole: &mut [u8],
@@ -342,7 +371,14 @@ fn call_check(out: &Stdout, net: Network, held: &[u64], work: &mut [u64], record
     say_runs(out, work);
 }
 
-fn call_show<'a>(out: &Stdout, net: Network, held: &'a [u64], worked: &'a [u64], which: u64, function: u64) {
+fn call_show<'a>(
+    out: &Stdout,
+    net: Network,
+    held: &'a [u64],
+    worked: &'a [u64],
+    which: u64,
+    function: u64,
+) {
     say(out, b"part");
     let f = function as usize;
     if which == 0 {
