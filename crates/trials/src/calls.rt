@@ -46,15 +46,15 @@ fn read_into(out: &Stdout, text: &[u8], whole: &mut [u64], length: usize) {
         say(out, b"done");
         say_number(out, net.top);
         say_number(out, net.constant);
-        say_sizes(out, net);
-        say_scopes(out, net);
+        say_sizes(out, &net);
+        say_scopes(out, &net);
     }
     say(out, b" table");
     say_runs(out, table);
 }
 
 // N and the size of each variable.
-fn say_sizes(out: &Stdout, net: Network) {
+fn say_sizes(out: &Stdout, net: &Network) {
     let sizes = net.sizes;
     let vars = net.vars;
     say_number(out, vars as u64);
@@ -69,7 +69,7 @@ fn say_sizes(out: &Stdout, net: Network) {
 }
 
 // F, and for each function its arity and variables.
-fn say_scopes(out: &Stdout, net: Network) {
+fn say_scopes(out: &Stdout, net: &Network) {
     let functions = net.functions;
     say_number(out, functions as u64);
     let mut f: usize = 0;
@@ -82,7 +82,7 @@ fn say_scopes(out: &Stdout, net: Network) {
     }
 }
 
-fn say_scope(out: &Stdout, net: Network, f: usize) {
+fn say_scope(out: &Stdout, net: &Network, f: usize) {
     if FUNCTIONS <= f {
         return;
     }
@@ -124,12 +124,12 @@ fn make_lent(
     record: &[u8],
     lent: Lent,
 ) {
-    let lengths = lengths_lent(read, held, lent);
-    if asks_to_show(header) {
+    let lengths = lengths_lent(&read, held, lent);
+    let net = replaced(&read, lent);
+    if asks_to_show(&header) {
         pass_free(read, held, work);
         replace_entry(work, lent, 10);
     }
-    let net = replaced(read, lent);
     replace_entry(held, lent, 9);
     cut(
         out,
@@ -143,7 +143,7 @@ fn make_lent(
     );
 }
 
-fn asks_to_show(header: Header) -> bool {
+fn asks_to_show(header: &Header) -> bool {
     let call = header.call;
     match call {
         Call::Show => true,
@@ -336,12 +336,13 @@ fn search_into(
         return;
     }
     let buffer = &mut whole[..room];
+    let top = net.top;
     let found = search::search(net, held, work, buffer, asked, budget);
     let answer = found.answer;
     if number(answer) != 0 {
         say_refusal(out, answer);
     } else {
-        if found.cost < net.top {
+        if found.cost < top {
             say(out, b"cost");
             say_number(out, found.cost);
             say(out, b" plan");
