@@ -14,6 +14,6 @@ returns-in-At c = let a = c.args in
 
 pub returns-in-Refused : goal.returns-in-Refused
 returns-in-Refused c = record {
-  work_value = (λ sizes scopes starts work. placed_stop _ _ _ _ _ c.read_costs.ensures _ c.in-Refused.is);
+  work_value = (λ sizes scopes starts work. placed_stop (draft_of c.args.o sizes scopes starts work) [] _ _ _ c.read_costs.ensures _ c.in-Refused.is);
   counted = tt;
 }

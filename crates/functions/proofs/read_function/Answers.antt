@@ -12,15 +12,9 @@ use mathlib.Core.Path.{◌≡◌, sym, ◌∙◌, ap}
 use Prim.Native.Nat.{◌≤◌}
 use Rattle.functions.proofs.read_function.Goals as goal
 
-abbrev draft : tie.Start → Draft
-draft p = let a = p.args in draft_of a.o a.sizes.now a.scopes.now a.starts.now a.work.now
-
-entries-are : (p : tie.Start) → length (take p.args.o.entries p.args.work.now) ≡ p.args.o.entries
-entries-are p = length-take-le _ _ (omega (arith, p.requires.0.few))
-
 pub returns-in-No : goal.returns-in-No
-returns-in-No c = record {
-  work_after = sym (function_arity (draft c.before) _ _ _ c.number_in.ensures _ c.in-No.is);
+returns-in-No c = let a = c.args in record {
+  work_after = sym (function_arity (draft_of a.o a.sizes.now a.scopes.now a.starts.now a.work.now) _ _ _ c.number_in.ensures _ c.in-No.is);
   counted = tt;
 }
 
@@ -45,14 +39,20 @@ read_placed-requires c = let l = in_range _ _ _ _ _ _ (ap num_is (sym c.in-Is.is
     }
 
 pub returns-in-At : goal.returns-in-At
-returns-in-At c = let r = c.read_placed.ensures in
+returns-in-At c =
+    let a = c.args in
+    let entries_are : length (take a.o.entries a.work.now) ≡ a.o.entries = length-take-le _ _ (omega (arith, c.requires.begun.few)) in
+    let r = c.read_placed.ensures in
     record {
-      work_after = r.0 ∙ sym (function-placed (draft c.before) _ _ _ c.number_in.ensures _ c.in-Is.is _ (entries-are c.before) _ _ c.read_scope.ensures _ c.in-At.is);
-      counted = r.1;
+      work_after = r.work_after ∙ sym (function-placed (draft_of a.o a.sizes.now a.scopes.now a.starts.now a.work.now) _ _ _ c.number_in.ensures _ c.in-Is.is _ entries_are _ _ c.read_scope.ensures _ c.in-At.is);
+      counted = r.counted;
     }
 
 pub returns-in-Refused : goal.returns-in-Refused
-returns-in-Refused c = record {
-  work_after = sym (function-scope (draft c.before) _ _ _ c.number_in.ensures _ c.in-Is.is _ (entries-are c.before) _ _ c.read_scope.ensures _ c.in-Refused.is);
-  counted = tt;
-}
+returns-in-Refused c =
+    let a = c.args in
+    let entries_are : length (take a.o.entries a.work.now) ≡ a.o.entries = length-take-le _ _ (omega (arith, c.requires.begun.few)) in
+    record {
+      work_after = sym (function-scope (draft_of a.o a.sizes.now a.scopes.now a.starts.now a.work.now) _ _ _ c.number_in.ensures _ c.in-Is.is _ entries_are _ _ c.read_scope.ensures _ c.in-Refused.is);
+      counted = tt;
+    }

@@ -18,7 +18,7 @@ loop-left-smaller c = omega arith
 
 pub loop-left-preserved : goal.loop-left-preserved
 loop-left-preserved c =
-    let n = counted_to _ _ _ _ c.in-To.is c.read_function.ensures.counted in (
+    let n = counted_to c.loop-left.o _ _ _ c.in-To.is c.read_function.ensures.counted in (
       c.read_function.auto.work ∙ c.loop-left.invariant.0,
       begun_more _ _ _ c.loop-left.invariant.1 n.0 n.1 n.2,
       omega (arith, n.3),

@@ -24,10 +24,10 @@ returns-in-At c = let a = c.args in
     let v : length (take a.arity a.variables.now) ≡ a.arity = length-take-le _ _ (omega arith) in
     let w = put_mid s (s + m - s) a.work.now ys in
     let q = c.put_function.ensures in
-    rw q.0 (record { by_index = (λ sizes. let d = draft_of a.o sizes a.scopes.now a.starts.now a.work.now in ap (λ (z : Draft). got z c.in-At.next) (function-put a.o sizes a.scopes.now a.starts.now a.work.now _ _ w m (take a.arity a.variables.now) ys (omega arith) q.1.0 (rw t q.1.1) (stretch_filled s m (s + m - s) a.work.now ys w l (omega arith) refl)) ∙ placed_at d (take a.arity a.variables.now) _ ys _ c.read_costs.ensures _ c.in-At.is); counted = (refl, omega arith, omega (arith, c.product_of-many.ensures), omega arith) })
+    rw q.value (record { by_index = (λ sizes. let d = draft_of a.o sizes a.scopes.now a.starts.now a.work.now in ap (λ (z : Draft). got z c.in-At.next) (function-put a.o sizes a.scopes.now a.starts.now a.work.now _ _ w m (take a.arity a.variables.now) ys (omega arith) q.scopes_after (rw t q.starts_after) (stretch_filled s m (s + m - s) a.work.now ys w l (omega arith) refl)) ∙ placed_at d (take a.arity a.variables.now) _ ys _ c.read_costs.ensures _ c.in-At.is); counted = (refl, omega arith, omega (arith, c.product_of-many.ensures), omega arith) })
 
 pub returns-in-Refused : goal.returns-in-Refused
 returns-in-Refused c = record {
-  by_index = (λ sizes. placed_stop _ _ _ _ _ c.read_costs.ensures _ c.in-Refused.is);
+  by_index = (λ sizes. placed_stop (draft_of c.args.o sizes c.args.scopes.now c.args.starts.now c.args.work.now) (take c.args.arity c.args.variables.now) _ _ _ c.read_costs.ensures _ c.in-Refused.is);
   counted = tt;
 }

@@ -12,8 +12,8 @@ use mathlib.Core.Path.{◌≡◌, refl, sym, ◌∙◌, ap}
 use Prim.Native.Nat.{◌≤◌, ◌-◌}
 use Rattle.functions.proofs.read_unary.Goals as goal
 
--- LOST part-cells-end : tie.Need-slice-bounds-cells-end
--- part-cells-end c = omega (arith, c.byte-in.ensures, c.before.before.before.before.before.requires.0.ranged.small c.before.before.before.before.before.args.x)
+pub slice_bounds-cells-end : goal.slice_bounds-cells-end
+slice_bounds-cells-end c = omega (arith, c.byte_in-many.ensures, c.requires.begun.ranged.small c.args.x)
 
 pub read_costs-requires : goal.read_costs-requires
 read_costs-requires c = let a = c.args in
@@ -44,6 +44,6 @@ returns-in-At c = let a = c.args in
 
 pub returns-in-Refused : goal.returns-in-Refused
 returns-in-Refused c = record {
-  by_index = (λ scopes starts. placed_stop _ _ _ _ _ c.read_costs.ensures _ c.in-Refused.is);
+  by_index = (λ scopes starts. placed_stop (draft_of c.args.o c.args.sizes.now scopes starts c.args.work.now) (c.args.x ∷ []) _ _ _ c.read_costs.ensures _ c.in-Refused.is);
   counted = tt;
 }
