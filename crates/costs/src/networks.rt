@@ -7,7 +7,7 @@ ghost use Rattle.costs.specs.Networks.{in_row, scope_in, Scoped};
 use crate::limits::{FUNCTIONS, ROW, ROWS, VARS};
 
 // A network by value, beside a table of costs that the caller lends. Places past a count are ignored in what is given.
-#[derive(Drop)]
+#[derive(Clone, Copy)]
 pub struct Network {
     // the bound k
     pub top: u64,

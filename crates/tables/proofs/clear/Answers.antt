@@ -4,7 +4,7 @@ use lib.Seq.{drop-length}
 use lib.ListN.{length, length-set}
 use mathlib.Core.List.{append-nil}
 use mathlib.Core.Path.{◌≡◌}
-use Prim.Native.Nat.{◌<◌, ◌-◌}
+use Prim.Native.Nat.{◌<◌}
 use borrow.Author.Rules.{rules}
 use Rattle.tables.proofs.clear.Goals as goal
 

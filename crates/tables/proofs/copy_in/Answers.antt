@@ -2,7 +2,7 @@ use Rattle.tables.proofs.TableLaws.{copied_more}
 use native.Mathlib.Omega.{arith}
 use lib.ListN.{length, length-set}
 use mathlib.Core.Path.{◌≡◌, refl}
-use Prim.Native.Nat.{◌<◌, ◌-◌}
+use Prim.Native.Nat.{◌<◌}
 use borrow.Author.Rules.{rules}
 use Rattle.tables.proofs.copy_in.Goals as goal
 

@@ -1,0 +1,20 @@
+use mathlib.Core.Path.{refl}
+use Prim.Native.Nat.{◌^◌, ◌<◌}
+use native.Mathlib.Omega.{arith}
+use lib.ListN.{length}
+use borrow.Author.Rules.{rules}
+use Rattle.agreed.proofs.FiledRecords.{filed_after}
+use Rattle.agreed.proofs.search_and_check.Goals as goal
+
+pub desk_answer-answer-requires : goal.desk_answer-answer-requires
+desk_answer-answer-requires c = let s = c.args in let few : length s.out.now < 2 ^ 64 = search rules in λ d. (filed_after s.net s.held.now (length s.work.now) (length s.out.now) c.search-found.new.work c.search-found.new.out s.budget c.search-found.result (omega (arith, c.search-found.auto.work)) few c.search-found.ensures.0 d).0
+
+pub returns : goal.returns
+returns c = let s = c.args in
+    let found = c.search-found in
+    let few : length s.out.now < 2 ^ 64 = search (rules, c.well_formed) in (
+      rw found.ensures.0,
+      c.desk_answer-answer.ensures.0,
+      filed_after s.net s.held.now (length s.work.now) (length s.out.now) s.work.now found.new.out s.budget found.result refl few found.ensures.0,
+      c.desk_answer-answer.ensures.1 found.ensures.1,
+    )
