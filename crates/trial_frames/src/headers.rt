@@ -31,7 +31,7 @@ pub enum Call {
 }
 
 // The numbers behind the call, the text's length first.
-#[derive(Drop)]
+#[derive(Clone, Copy)]
 pub struct Header {
     pub call: Call,
     pub many: usize,
@@ -237,13 +237,13 @@ fn with_digit(n: u64, byte: u8) -> Number {
     Number::Of(n * 10 + digit)
 }
 
-pub fn text_length(header: &Header) -> usize {
+pub fn text_length(header: Header) -> usize {
     let numbers = header.numbers;
     numbers[0] as usize
 }
 
 // Of the calls only a check has a record behind its text.
-pub fn record_length(header: &Header) -> usize {
+pub fn record_length(header: Header) -> usize {
     let call = header.call;
     let numbers = header.numbers;
     match call {
@@ -253,7 +253,7 @@ pub fn record_length(header: &Header) -> usize {
 }
 
 // The numbers are as many as the call takes, and each is in its range.
-pub fn fits(header: &Header) -> bool {
+pub fn fits(header: Header) -> bool {
     let call = header.call;
     let many = header.many;
     let numbers = header.numbers;

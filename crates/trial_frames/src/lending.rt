@@ -40,7 +40,7 @@ pub fn nothing_lent() -> Lent {
     }
 }
 
-pub fn lent_by(header: &Header) -> Lent {
+pub fn lent_by(header: Header) -> Lent {
     let numbers = header.numbers;
     Lent {
         asked: true,
@@ -52,7 +52,7 @@ pub fn lent_by(header: &Header) -> Lent {
     }
 }
 
-pub fn lengths_lent(net: &Network, table: &[u64; ROOM], lent: Lent) -> Lengths {
+pub fn lengths_lent(net: Network, table: &[u64; ROOM], lent: Lent) -> Lengths {
     if lent.asked {
         return Lengths {
             held: lent.held,
@@ -67,7 +67,7 @@ pub fn lengths_lent(net: &Network, table: &[u64; ROOM], lent: Lent) -> Lengths {
 }
 
 // E
-fn entries_of(net: &Network, table: &[u64; ROOM]) -> usize
+fn entries_of(net: Network, table: &[u64; ROOM]) -> usize
     ensures { result ≤ entries_most }
 {
     let judged = judge(
@@ -103,16 +103,8 @@ pub fn replace_entry(table: &mut [u64; ROOM], lent: Lent, field: u64) {
 }
 
 // The network with the number that a `lend` replaces.
-pub fn replaced(network: &Network, lent: Lent) -> Network {
-    let mut net = Network {
-        top: network.top,
-        constant: network.constant,
-        vars: network.vars,
-        sizes: network.sizes,
-        functions: network.functions,
-        scopes: network.scopes,
-        starts: network.starts,
-    };
+pub fn replaced(network: Network, lent: Lent) -> Network {
+    let mut net = network;
     let field = lent.field;
     let place = lent.place;
     let value = lent.value;

@@ -124,12 +124,12 @@ fn make_lent(
     record: &[u8],
     lent: Lent,
 ) {
-    let lengths = lengths_lent(&read, held, lent);
-    let net = replaced(&read, lent);
-    if asks_to_show(&header) {
+    let lengths = lengths_lent(read, held, lent);
+    if asks_to_show(header) {
         pass_free(read, held, work);
         replace_entry(work, lent, 10);
     }
+    let net = replaced(read, lent);
     replace_entry(held, lent, 9);
     cut(
         out,
@@ -143,7 +143,7 @@ fn make_lent(
     );
 }
 
-fn asks_to_show(header: &Header) -> bool {
+fn asks_to_show(header: Header) -> bool {
     let call = header.call;
     match call {
         Call::Show => true,
@@ -336,13 +336,12 @@ fn search_into(
         return;
     }
     let buffer = &mut whole[..room];
-    let top = net.top;
     let found = search::search(net, held, work, buffer, asked, budget);
     let answer = found.answer;
     if number(answer) != 0 {
         say_refusal(out, answer);
     } else {
-        if found.cost < top {
+        if found.cost < net.top {
             say(out, b"cost");
             say_number(out, found.cost);
             say(out, b" plan");

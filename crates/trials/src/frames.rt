@@ -21,9 +21,9 @@ pub fn frame(rt: &HostRuntime, text: &mut [u8], record: &mut [u8], lent: Lent) -
     if let Call::Over = call {
         return the_end();
     }
-    let many = text_length(&header);
-    let bytes = record_length(&header);
-    if !fits(&header) {
+    let many = text_length(header);
+    let bytes = record_length(header);
+    if !fits(header) {
         return bad_frame(&out);
     }
     if text.len() < many {
@@ -40,7 +40,7 @@ pub fn frame(rt: &HostRuntime, text: &mut [u8], record: &mut [u8], lent: Lent) -
     }
     if let Call::Lend = call {
         say(&out, b"lent\n");
-        let next = lent_by(&header);
+        let next = lent_by(header);
         return Next {
             more: true,
             lent: next,
