@@ -1,31 +1,31 @@
 // Reads a network from standard input and prints the verdict on it: the cheapest plan, "none", or a refusal.
 #![tactic(auto)]
 
-use console::{ERRORS, IN, hand_over, read_in, say};
+use console::{argument_count, hand_over, read_in, say, tell_failure};
 use reader::limits::TEXT;
 use verdict::verdict;
 
 // One byte more than a text may have: a text that fills this is refused for its length.
 const INPUT: usize = TEXT + 1;
 
-fn main() {
-    if os::arg_count() > 1 {
-        say(ERRORS, b"usage: fringepond < NETWORK\n");
+fn main(rt: HostRuntime) {
+    if argument_count(&rt) > 1 {
+        say(&rt.stderr(), b"usage: fringepond < NETWORK\n");
         return;
     }
     let mut text = [0u8; INPUT];
-    read_and_tell(&mut text);
+    read_and_tell(&rt, &mut text);
 }
 
-fn read_and_tell(text: &mut [u8]) {
-    let came = read_in(IN, text);
-    if came.failed {
-        os::fail(b"standard input");
+fn read_and_tell(rt: &HostRuntime, text: &mut [u8]) {
+    let came = read_in(&mut rt.stdin(), text);
+    if let Some(error) = came.failed {
+        tell_failure(&rt.stderr(), b"standard input", error);
         return;
     }
     let many = came.many;
     let lines = verdict(&text[..many]);
     let bytes = lines.bytes;
     let len = lines.len;
-    hand_over(&bytes[..len]);
+    hand_over(rt, &bytes[..len]);
 }

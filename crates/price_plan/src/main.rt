@@ -7,7 +7,7 @@ ghost use Rattle.lines.specs.Lines.{head_most, lines_most, written};
 ghost use Rattle.price_plan.specs.PriceLine.{break_words, price_line};
 
 use answers::number;
-use console::{ERRORS, hand_over, read_in_argument, say, say_number};
+use console::{ARGUMENT, argument_count, hand_over, read_in_argument, say, say_number};
 use costs::limits::{ENTRIES, VARS};
 use costs::networks::wide;
 use costs::plans::Plan;
@@ -15,6 +15,7 @@ use lines::{Lines, nothing, refusal, with_number, with_word};
 use prices::breaks::Break;
 use prices::prices::Priced;
 use reader::limits::TEXT;
+use std::env::Env;
 
 // One byte more than a text may have: a text that fills this is refused for its length.
 const INPUT: usize = TEXT + 1;
@@ -32,40 +33,40 @@ enum Value {
     Bad,
 }
 
-fn main() {
-    let arguments = os::arg_count();
+fn main(rt: HostRuntime) {
+    let arguments = argument_count(&rt);
     if arguments < FIRST {
-        say(ERRORS, b"usage: price_plan NETWORK VALUE ..\n");
+        say(&rt.stderr(), b"usage: price_plan NETWORK VALUE ..\n");
         return;
     }
     let mut text = [0u8; INPUT];
-    read_and_price(&mut text, arguments);
+    read_and_price(&rt, &mut text, arguments);
 }
 
-fn read_and_price(text: &mut [u8], arguments: usize)
+fn read_and_price(rt: &HostRuntime, text: &mut [u8], arguments: usize)
     requires { 2 ≤ arguments }
 {
-    let came = read_in_argument(NETWORK, text);
-    if came.failed {
+    let came = read_in_argument(rt, NETWORK, text);
+    if came.failed.is_some() {
         return;
     }
     let many = came.many;
     let mut choice = [0u8; VARS];
-    if !read_values(arguments, &mut choice) {
+    if !read_values(rt, arguments, &mut choice) {
         return;
     }
     let plan = Plan {
         choice: choice,
         len: arguments - FIRST,
     };
-    price(&text[..many], plan);
+    price(rt, &text[..many], plan);
 }
 
 // Whether every value is a number. Those that a plan has no room for are looked at too, though it is refused for their count alone.
-fn read_values(arguments: usize, choice: &mut [u8; VARS]) -> bool {
+fn read_values(rt: &HostRuntime, arguments: usize, choice: &mut [u8; VARS]) -> bool {
     let mut argument = FIRST;
     while argument < arguments {
-        let value = match value_in_argument(argument) {
+        let value = match value_in_argument(rt, argument) {
             Value::Is(value) => value,
             Value::Bad => return false,
         };
@@ -82,24 +83,24 @@ fn put_value(choice: &mut [u8; VARS], v: usize, value: u8) {
 }
 
 // Why there is none is told on standard error.
-fn value_in_argument(argument: usize) -> Value {
-    let mut word = io::buffer();
-    let many = os::arg(argument, &mut word);
-    if os::errno() != 0 {
-        say_of_argument(argument, b" is too long\n");
+fn value_in_argument(rt: &HostRuntime, argument: usize) -> Value {
+    let mut word = [0u8; ARGUMENT];
+    let Ok(many) = rt.arg(argument, &mut word) else {
+        say_of_argument(rt, argument, b" is too long\n");
         return Value::Bad;
-    }
+    };
     let value = value_of(&word[..many]);
     if let Value::Bad = value {
-        say_of_argument(argument, b" is not a number\n");
+        say_of_argument(rt, argument, b" is not a number\n");
     }
     value
 }
 
-fn say_of_argument(argument: usize, what: &[u8]) {
-    say(ERRORS, b"price_plan: argument");
-    say_number(ERRORS, argument as u64);
-    say(ERRORS, what);
+fn say_of_argument(rt: &HostRuntime, argument: usize, what: &[u8]) {
+    let errors = rt.stderr();
+    say(&errors, b"price_plan: argument");
+    say_number(&errors, argument as u64);
+    say(&errors, what);
 }
 
 // Decimal digits, as many as there are.
@@ -129,16 +130,16 @@ fn with_digit(value: u8, digit: u8) -> u8 {
     if more < 255 { more as u8 } else { 255 }
 }
 
-fn price(text: &[u8], plan: Plan) {
+fn price(rt: &HostRuntime, text: &[u8], plan: Plan) {
     let mut held = [0u64; ENTRIES];
     let read = reader::reading::read(text, &mut held);
     let unread = read.answer;
     if number(unread) != 0 {
-        tell(refusal(unread));
+        tell(rt, refusal(unread));
         return;
     }
     let net = read.network;
-    tell(line(prices::price(net, &held, plan)));
+    tell(rt, line(prices::price(net, &held, plan)));
 }
 
 // `price 10 at function 1`
@@ -168,10 +169,10 @@ fn with_break(lines: Lines, broke: Break) -> Lines
     }
 }
 
-fn tell(lines: Lines)
+fn tell(rt: &HostRuntime, lines: Lines)
     requires { lines.len ≤ lines_most }
 {
     let bytes = lines.bytes;
     let len = lines.len;
-    hand_over(&bytes[..len]);
+    hand_over(rt, &bytes[..len]);
 }

@@ -7,6 +7,7 @@ ghost use Rattle.costs.specs.Limits.{entries_most};
 
 use costs::limits::{ENTRIES, FUNCTIONS, ROWS, VARS};
 use costs::networks::Network;
+use std::io::Stdout;
 
 #[derive(Clone, Copy)]
 struct Shape {
@@ -24,10 +25,11 @@ struct Shape {
     reach: u64,
 }
 
-fn main() {
-    search_shape(middling());
-    search_shape(wide());
-    search_shape(narrow());
+fn main(rt: HostRuntime) {
+    let out = rt.stdout();
+    search_shape(&out, middling());
+    search_shape(&out, wide());
+    search_shape(&out, narrow());
 }
 
 fn middling() -> Shape {
@@ -69,15 +71,15 @@ fn narrow() -> Shape {
     }
 }
 
-fn search_shape(shape: Shape) {
-    search_drawn(shape, 1);
-    search_drawn(shape, 2);
-    search_drawn(shape, 3);
-    search_drawn(shape, 4);
-    search_drawn(shape, 5);
+fn search_shape(out: &Stdout, shape: Shape) {
+    search_drawn(out, shape, 1);
+    search_drawn(out, shape, 2);
+    search_drawn(out, shape, 3);
+    search_drawn(out, shape, 4);
+    search_drawn(out, shape, 5);
 }
 
-fn search_drawn(shape: Shape, seed: u64) {
+fn search_drawn(out: &Stdout, shape: Shape, seed: u64) {
     let mut scopes = [0u8; ROWS];
     let after = draw_scopes(&mut scopes, shape, seed);
     let size = shape.size;
@@ -93,10 +95,9 @@ fn search_drawn(shape: Shape, seed: u64) {
     let mut held = [0u64; ENTRIES];
     draw_costs(&mut held, after);
     let mut work = [0u64; ENTRIES];
-    let mut out = [0u8; 64];
-    let found = search::search(net, &held, &mut work, &mut out, false, 1_000_000);
-    tell(found.cost, b' ');
-    tell(found.nodes, b'\n');
+    let mut record = [0u8; 64];
+    let found = search::search(net, &held, &mut work, &mut record, false, 1_000_000);
+    tell(out, found.cost, found.nodes);
 }
 
 fn next(seed: u64) -> u64 {
@@ -198,7 +199,6 @@ fn draw_costs(held: &mut [u64], seed: u64) {
     }
 }
 
-fn tell(n: u64, then: u8) {
-    io::print_decimal(1, n);
-    io::write_all(1, &[then]);
+fn tell(out: &Stdout, cost: u64, nodes: u64) {
+    let _ = println!(out; "{cost} {nodes}");
 }

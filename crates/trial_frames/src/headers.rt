@@ -1,8 +1,9 @@
 // The header line of a frame: the call, then numbers.
 ghost use Rattle.std.specs.Prelude.{◌≤◌};
 
-use console::{IN, read_in};
+use console::read_in;
 use costs::limits::{FUNCTIONS, VARS};
+use std::io::Read;
 
 // The call's own numbers and the words of a node are at most so many: those of a shift.
 pub const NUMBERS: usize = 6 + VARS;
@@ -30,7 +31,7 @@ pub enum Call {
 }
 
 // The numbers behind the call, the text's length first.
-#[derive(Drop)]
+#[derive(Clone, Copy)]
 pub struct Header {
     pub call: Call,
     pub many: usize,
@@ -57,9 +58,9 @@ enum Number {
     Of(u64),
 }
 
-pub fn read_header() -> Header {
+pub fn read_header(from: &mut impl Read) -> Header {
     let mut line = [0u8; LINE];
-    match read_line(&mut line) {
+    match read_line(from, &mut line) {
         Line::Over => header_without(Call::Over),
         Line::CutOff => header_without(Call::Unknown),
         Line::Of(many) => header_of(&line, many),
@@ -74,11 +75,11 @@ fn header_without(call: Call) -> Header {
     }
 }
 
-fn read_line(line: &mut [u8; LINE]) -> Line {
+fn read_line(from: &mut impl Read, line: &mut [u8; LINE]) -> Line {
     let mut many: usize = 0;
     while many <= LINE {
         let mut one = [0u8; 1];
-        let came = read_in(IN, &mut one);
+        let came = read_in(from, &mut one);
         if came.many == 0 {
             return cut_off(many);
         }

@@ -2,24 +2,25 @@
 ghost use Rattle.std.specs.Prelude.{◌≤◌, ◌<◌, length};
 
 use answers::{Answer, number};
-use console::{OUT, say, say_number, say_refusal};
+use console::{say, say_number, say_refusal};
+use std::io::Stdout;
 
 // `done 4`, or the refusal
-pub fn say_done(answer: Answer, n: u64) {
+pub fn say_done(out: &Stdout, answer: Answer, n: u64) {
     if number(answer) != 0 {
-        say_refusal(OUT, answer);
+        say_refusal(out, answer);
         return;
     }
-    say(OUT, b"done");
-    say_number(OUT, n);
+    say(out, b"done");
+    say_number(out, n);
 }
 
 // `0*12 5*1 77*2`
-pub fn say_runs(table: &[u64]) {
+pub fn say_runs(out: &Stdout, table: &[u64]) {
     let mut at: usize = 0;
     while at < table.len() {
         let end = run_end(table, at);
-        say_run(table[at], end - at);
+        say_run(out, table[at], end - at);
         at = end;
     }
 }
@@ -40,11 +41,11 @@ fn run_end(table: &[u64], from: usize) -> usize
 }
 
 // The same of bytes.
-pub fn say_byte_runs(bytes: &[u8]) {
+pub fn say_byte_runs(out: &Stdout, bytes: &[u8]) {
     let mut at: usize = 0;
     while at < bytes.len() {
         let end = byte_run_end(bytes, at);
-        say_run(wide(bytes[at]), end - at);
+        say_run(out, wide(bytes[at]), end - at);
         at = end;
     }
 }
@@ -64,10 +65,9 @@ fn byte_run_end(bytes: &[u8], from: usize) -> usize
     bytes.len()
 }
 
-fn say_run(value: u64, many: usize) {
-    say_number(OUT, value);
-    say(OUT, b"*");
-    io::print_decimal(OUT, many as u64);
+fn say_run(out: &Stdout, value: u64, many: usize) {
+    say_number(out, value);
+    let _ = print!(out; "*{many}");
 }
 
 pub fn wide(byte: u8) -> u64 {

@@ -1,6 +1,7 @@
 // A frame: its header, its payload, the line end behind it, and the line that answers it.
 use crate::calls::answer;
-use console::{IN, OUT, read_in, say};
+use console::{read_in, say};
+use std::io::{Read, Stdout};
 use trial_frames::headers::{Call, fits, read_header, record_length, text_length};
 use trial_frames::lending::{Lent, lent_by, nothing_lent};
 
@@ -12,8 +13,10 @@ pub struct Next {
 }
 
 // The buffers are as long as a text and a record may be.
-pub fn frame(text: &mut [u8], record: &mut [u8], lent: Lent) -> Next {
-    let header = read_header();
+pub fn frame(rt: &HostRuntime, text: &mut [u8], record: &mut [u8], lent: Lent) -> Next {
+    let mut input = rt.stdin();
+    let out = rt.stdout();
+    let header = read_header(&mut input);
     let call = header.call;
     if let Call::Over = call {
         return the_end();
@@ -21,29 +24,29 @@ pub fn frame(text: &mut [u8], record: &mut [u8], lent: Lent) -> Next {
     let many = text_length(header);
     let bytes = record_length(header);
     if !fits(header) {
-        return bad_frame();
+        return bad_frame(&out);
     }
     if text.len() < many {
-        return bad_frame();
+        return bad_frame(&out);
     }
     if record.len() < bytes {
-        return bad_frame();
+        return bad_frame(&out);
     }
-    let text_came = came_whole(&mut text[..many]);
-    let record_came = came_whole(&mut record[..bytes]);
-    let ended = line_ends();
+    let text_came = came_whole(&mut input, &mut text[..many]);
+    let record_came = came_whole(&mut input, &mut record[..bytes]);
+    let ended = line_ends(&mut input);
     if !text_came || !record_came || !ended {
-        return bad_frame();
+        return bad_frame(&out);
     }
     if let Call::Lend = call {
-        say(OUT, b"lent\n");
+        say(&out, b"lent\n");
         let next = lent_by(header);
         return Next {
             more: true,
             lent: next,
         };
     }
-    answer(header, &text[..many], &record[..bytes], lent);
+    answer(&out, header, &text[..many], &record[..bytes], lent);
     let nothing = nothing_lent();
     Next {
         more: true,
@@ -51,19 +54,19 @@ pub fn frame(text: &mut [u8], record: &mut [u8], lent: Lent) -> Next {
     }
 }
 
-fn came_whole(bytes: &mut [u8]) -> bool {
-    let came = read_in(IN, bytes);
+fn came_whole(from: &mut impl Read, bytes: &mut [u8]) -> bool {
+    let came = read_in(from, bytes);
     came.many == bytes.len()
 }
 
-fn line_ends() -> bool {
+fn line_ends(from: &mut impl Read) -> bool {
     let mut one = [0u8; 1];
-    let came = read_in(IN, &mut one);
+    let came = read_in(from, &mut one);
     came.many == 1 && one[0] == b'\n'
 }
 
-fn bad_frame() -> Next {
-    say(OUT, b"bad frame\n");
+fn bad_frame(out: &Stdout) -> Next {
+    say(out, b"bad frame\n");
     the_end()
 }
 

@@ -13,18 +13,18 @@ const TEXT: usize = 70_000;
 
 const RECORD: usize = 400_000;
 
-fn main() {
+fn main(rt: HostRuntime) {
     let mut text = [0u8; TEXT];
     let mut record = [0u8; RECORD];
-    frame_by_frame(&mut text, &mut record);
+    frame_by_frame(&rt, &mut text, &mut record);
 }
 
-fn frame_by_frame(text: &mut [u8], record: &mut [u8]) {
+fn frame_by_frame(rt: &HostRuntime, text: &mut [u8], record: &mut [u8]) {
     let mut lent = nothing_lent();
     // A proved loop ends, and nothing says that an input does: no run uses these turns up.
     let mut turns = u64::MAX;
     while turns > 0 {
-        let next = frame(text, record, lent);
+        let next = frame(rt, text, record, lent);
         if !next.more {
             return;
         }

@@ -3,7 +3,7 @@
 #![tactic(auto)]
 
 use answers::{Answer, number};
-use console::{ERRORS, IN, hand_over, read_in, say, say_refusal};
+use console::{argument_count, hand_over, read_in, say, say_refusal, tell_failure};
 use costs::limits::{ENTRIES, VARS};
 use costs::networks::Network;
 use reader::limits::TEXT;
@@ -19,60 +19,61 @@ const INPUT: usize = TEXT + 1;
 // Room for a record; a longer one is refused 12.
 const ROOM: usize = 4_194_304;
 
-fn main() {
-    if os::arg_count() > 1 {
-        say(ERRORS, b"usage: write_record < NETWORK > RECORD\n");
+fn main(rt: HostRuntime) {
+    if argument_count(&rt) > 1 {
+        say(&rt.stderr(), b"usage: write_record < NETWORK > RECORD\n");
         return;
     }
     let mut text = [0u8; INPUT];
-    read_and_write(&mut text);
+    read_and_write(&rt, &mut text);
 }
 
-fn read_and_write(text: &mut [u8]) {
-    let came = read_in(IN, text);
-    if came.failed {
-        os::fail(b"standard input");
+fn read_and_write(rt: &HostRuntime, text: &mut [u8]) {
+    let came = read_in(&mut rt.stdin(), text);
+    if let Some(error) = came.failed {
+        tell_failure(&rt.stderr(), b"standard input", error);
         return;
     }
     let many = came.many;
-    write_from(&text[..many]);
+    write_from(rt, &text[..many]);
 }
 
-fn write_from(text: &[u8]) {
+fn write_from(rt: &HostRuntime, text: &[u8]) {
     let mut held = [0u64; ENTRIES];
     let read = reader::reading::read(text, &mut held);
     let answer = read.answer;
     if number(answer) != 0 {
-        refuse(answer);
+        refuse(rt, answer);
         return;
     }
     let net = read.network;
     let mut record = [0u8; ROOM];
-    write_of(net, &held, &mut record);
+    write_of(rt, net, &held, &mut record);
 }
 
 // Lent by its type an array this long has a known length, and the prover need not count it.
-fn write_of(net: Network, held: &[u64; ENTRIES], record: &mut [u8; ROOM]) {
-    write_in(net, held, record);
+fn write_of(rt: &HostRuntime, net: Network, held: &[u64; ENTRIES], record: &mut [u8; ROOM]) {
+    write_in(rt, net, held, record);
 }
 
-fn write_in(net: Network, held: &[u64], record: &mut [u8]) {
+fn write_in(rt: &HostRuntime, net: Network, held: &[u64], record: &mut [u8]) {
     let mut work = [0u64; ENTRIES];
     let found = search::search(net, held, &mut work, record, true, BUDGET);
     let answer = found.answer;
     if number(answer) != 0 {
-        refuse(answer);
+        refuse(rt, answer);
         return;
     }
     let many = told_length(record);
     if many <= record.len() {
-        hand_over(&record[..many]);
+        hand_over(rt, &record[..many]);
     }
 }
 
-fn refuse(answer: Answer) {
-    say_refusal(ERRORS, answer);
-    say(ERRORS, b"\n");
+fn refuse(rt: &HostRuntime, answer: Answer) {
+    let errors = rt.stderr();
+    say_refusal(&errors, answer);
+    say(&errors, b"\n");
 }
 
 // The bytes of the record that stands at the front of the buffer: its header, its values and its steps.
