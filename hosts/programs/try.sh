@@ -1,11 +1,15 @@
 #!/usr/bin/env bash
 # What the programs say to examples, bad arguments, files that cannot be read, slow pipes and results that are lost. The exit status is 1 if one says
-# something else than is written here. `rt check fringepond write_record check_record price_plan` makes the programs.
+# something else than is written here. `hosts/make.sh fringepond write_record check_record price_plan` makes the programs.
 set -u
 root=$(cd "$(dirname "$0")/../.." && pwd)
-bin=$root/target/bin
 dir=$(mktemp -d)
 trap 'rm -rf "$dir"' EXIT
+bin=$dir/bin
+mkdir "$bin"
+for program in fringepond write_record check_record price_plan; do
+    ln -s "$root/crates/$program/out/$program" "$bin/$program"
+done
 tried=0
 failed=0
 

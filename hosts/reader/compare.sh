@@ -3,9 +3,9 @@
 set -eu
 root=$(cd "$(dirname "$0")/../.." && pwd)
 cd "$root"
-rt check trials > /dev/null
-rt staticlib reader_host > /dev/null
+hosts/make.sh trials
+rt lib reader_host > /dev/null
 dir=$(mktemp -d)
 trap 'rm -rf "$dir"' EXIT
-rustc -O -o "$dir/compare" -L target/staticlib -l static=reader_host hosts/reader/compare.rs
-"$dir/compare" target/bin/trials
+rustc -O -o "$dir/compare" -L crates/reader_host/out -l static=reader_host hosts/reader/compare.rs
+"$dir/compare" crates/trials/out/trials

@@ -7,13 +7,13 @@ cd "$(dirname "$0")/../.."
 
 dir=$(mktemp -d)
 trap 'rm -rf "$dir"' EXIT
-rt check search_speed
+hosts/make.sh search_speed
 for name in ordinary measure; do
     rustc -O -o "$dir/$name" "hosts/search_speed/$name.rs"
 done
 
 # a load above 0 before the runs tells that the machine was busy with something else
 echo "load before the runs: $(cut -d ' ' -f 1 /proc/loadavg) on $(nproc) processors"
-"$dir/measure" "$runs" target/bin/search_speed "$dir/ordinary"
+"$dir/measure" "$runs" crates/search_speed/out/search_speed "$dir/ordinary"
 echo "buffers cleared inside the timing: by the proved program yes, for each network: both cost tables and the record buffer when it makes"
 echo "  them, the working table and the record buffer again at the search's end, as document 01 demands; by the ordinary program none"

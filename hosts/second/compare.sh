@@ -4,17 +4,17 @@
 #
 #   hosts/second/compare.sh [SEED [COUNT]]     COUNT generated networks (5,000) from the seeds SEED (1), SEED + 1, …
 #
-# TRIALS is the command that answers frames; by default target/bin/trials, which `rt check trials` makes.
+# TRIALS is the command that answers frames; by default crates/trials/out/trials, which `hosts/make.sh trials` makes.
 set -eu
 export LC_ALL=C
 root=$(cd "$(dirname "$0")/../.." && pwd)
 seed=${1:-1}
 count=${2:-5000}
-trials=${TRIALS:-$root/target/bin/trials}
+trials=${TRIALS:-$root/crates/trials/out/trials}
 stored=$root/crates/trials/stdin
 
 if ! command -v "${trials%% *}" >/dev/null; then
-    echo "no program ${trials%% *}: make it with 'rt check trials', or name another in TRIALS"
+    echo "no program ${trials%% *}: make it with 'hosts/make.sh trials', or name another in TRIALS"
     exit 2
 fi
 

@@ -4,10 +4,10 @@
 #
 #   hosts/trials/compare.sh [SEED…]      frames of these seeds (2 3 4); the stored trials are those of seed 1
 #
-# TRIALS is the command that answers frames; by default target/bin/trials, which `rt check trials` makes.
+# TRIALS is the command that answers frames; by default crates/trials/out/trials, which `hosts/make.sh trials` makes.
 set -eu
 root=$(cd "$(dirname "$0")/../.." && pwd)
-trials=${TRIALS:-$root/target/bin/trials}
+trials=${TRIALS:-$root/crates/trials/out/trials}
 dir=$(mktemp -d)
 trap 'rm -rf "$dir"' EXIT
 status=0

@@ -1,5 +1,5 @@
 -- The code's progress, as it goes from state to state. Assumes nothing.
-use Prim.Native.Nat.{ℕ, ◌+◌, ◌-◌, ◌<◌}
+use Prim.Native.Nat.{ℕ, ◌+◌, ◌<◌}
 use mathlib.Core.Path.{◌≡◌, refl, sym}
 use mathlib.Core.Bool.{Bool, true, false}
 use mathlib.Core.List.{List, [], ◌∷◌}

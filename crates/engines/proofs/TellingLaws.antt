@@ -1,5 +1,5 @@
 -- What is told at the end of a search. Assumes nothing.
-use Prim.Native.Nat.{ℕ, ◌+◌, ◌-◌, ◌<◌, min}
+use Prim.Native.Nat.{ℕ, ◌-◌, ◌<◌, min}
 use mathlib.Core.Path.{◌≡◌, sym, ap, ◌∙◌, subst}
 use mathlib.Core.Bool.{Bool, true, false, cond}
 use mathlib.Core.List.{List, ◌++◌}

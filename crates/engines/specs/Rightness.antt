@@ -1,5 +1,5 @@
 -- What is asked of an engine at each node, so that its search is right, keeps the rules of a record and stays small.
-use Rattle.std.specs.Prelude.{ℕ, zero, ◌+◌, ◌≤◌, ◌<◌, ◌≡◌, false, ◌⊎◌, List, ◌∷◌, ◌++◌, T, length}
+use Rattle.std.specs.Prelude.{ℕ, ◌+◌, ◌≤◌, ◌<◌, ◌≡◌, false, ◌⊎◌, List, ◌∷◌, ◌++◌, T, length}
 use Rattle.std.proofs.Math.Option.{none}
 use Rattle.costs.specs.Net.{Net, Costs, price}
 use Rattle.costs.specs.Cheapest.{value_in}

@@ -1,7 +1,7 @@
 -- The functions of the text, one after the other.
 use Rattle.std.specs.Prelude.{ℕ, zero, suc, List, [], length}
 use Rattle.costs.specs.Limits.{arity_most}
-use Rattle.tokens.specs.Steps.{Got, got, refused, Reads, ◌>>=◌, ◌>>◌, pure}
+use Rattle.tokens.specs.Steps.{Got, got, refused, Reads, ◌>>=◌, pure}
 use Rattle.tokens.specs.Numbers.{number_in}
 use Rattle.scopes.specs.Scopes.{scope_sizes, scope}
 use Rattle.function_costs.specs.FunctionCosts.{costs}

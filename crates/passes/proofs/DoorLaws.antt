@@ -7,7 +7,7 @@ use native.Mathlib.Omega.{arith}
 use lib.ListN.{length, take, drop, replicate}
 use Rattle.answers.specs.declared.Answer.TheVariants.{Done, Illegal}
 use Rattle.costs.specs.declared.networks.Network.{Network}
-use Rattle.costs.specs.Net.{Costs, start, entries, costs_of}
+use Rattle.costs.specs.Net.{Costs, entries, costs_of}
 use Rattle.costs.specs.Networks.{net_of, Ready}
 use Rattle.costs.specs.declared.networks.Outline.{Outline}
 use Rattle.costs.proofs.RowLaws.{scoped_sound}

@@ -23,7 +23,6 @@ use Rattle.shifts.specs.declared.moves.Move.{Move}
 use Rattle.shifts.specs.declared.moves.Move.TheVariants.{Project, Raise}
 use Rattle.shifts.specs.Nodes.{fixing, live_entry, Fits, least, Settled}
 use Rattle.shifts.specs.Moves.{shifted}
-use Rattle.shifts.specs.Doors.{settled}
 use Rattle.shifts.proofs.NodeLaws.{live_plan, fixing_plan, live_plan_all, hit_own, hit_other, least-gives, least_cap}
 use Rattle.shifts.proofs.ShiftsKeepPrices.{at_giver, at_taker, at_rest, unary_scoped, lives_on}
 use Rattle.passes.specs.Passing.{Work, shift_by, at_value, at_scope, projections, at_variable, pass}

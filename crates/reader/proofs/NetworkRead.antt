@@ -11,7 +11,7 @@ use lib.Dec.{T, ltb, lt→ltb}
 use lib.ListN.{length, get_or, take, drop, set, replicate, length-append, length-set, length-take, length-drop, length-replicate, get_or-append}
 use lib.Seq.{get_or-set_same, get_or-set_other}
 use Rattle.costs.specs.Limits.{vars_most, arity_most, row_places, functions_most, entries_most}
-use Rattle.costs.specs.Net.{All, tuples, start, entries}
+use Rattle.costs.specs.Net.{All, tuples, start}
 use Rattle.costs.specs.Networks.{in_row, scope_in, stands}
 use Rattle.costs.specs.Tests.{different}
 use Rattle.judging.specs.Judging.{IsNetwork}

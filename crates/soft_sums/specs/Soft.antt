@@ -2,7 +2,7 @@
 -- most 1,000".
 use Rattle.std.specs.Prelude.{ℕ, zero, suc, ◌+◌, ◌-◌, ◌*◌, ◌/◌, ◌%◌, min, cond, List, [], ◌∷◌, eqb}
 use Rattle.costs.specs.Range.{list_to}
-use Rattle.tokens.specs.Steps.{Reads, ◌>>=◌, ◌>>◌, pure}
+use Rattle.tokens.specs.Steps.{Reads, ◌>>=◌, pure}
 use Rattle.tokens.specs.Numbers.{number_in}
 use Rattle.tokens.specs.Words.{word}
 use Rattle.soft_sums.specs.SoftLimits.{base_most, limit_most}

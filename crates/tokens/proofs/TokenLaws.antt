@@ -1,5 +1,5 @@
 -- Laws of `token_at` and of what reading sees of a token. Assumes nothing.
-use Prim.Native.Nat.{ℕ, ◌-◌, ◌≤◌, ◌<◌}
+use Prim.Native.Nat.{ℕ, ◌≤◌, ◌<◌}
 use mathlib.Core.Path.{◌≡◌}
 use mathlib.Core.List.{List, []}
 use native.Mathlib.Nat.{sub-eq-zero_of_le}

@@ -1,5 +1,5 @@
 -- The search of document 01 is right, and writes a record that keeps the rules. Assumes nothing.
-use Prim.Native.Nat.{ℕ, zero, ◌≤◌, ◌<◌}
+use Prim.Native.Nat.{ℕ, ◌≤◌, ◌<◌}
 use mathlib.Core.Path.{◌≡◌, refl}
 use native.Mathlib.Omega.{arith}
 use lib.Dec.{leb, leb→le, nleb→lt, ltb, ltb→lt, nltb→le}
@@ -11,7 +11,7 @@ use Rattle.costs.proofs.RangeLaws.{first_to_below}
 use Rattle.passes.proofs.PassIsLegal.{pass_constant_below}
 use Rattle.costs.specs.Net.{Net, Costs, Sound}
 use Rattle.passes.specs.Passing.{pass}
-use Rattle.records.specs.Trees.{TreeNode, root}
+use Rattle.records.specs.Trees.{TreeNode}
 use Rattle.engines.specs.Engines.{Gate, searched}
 use Rattle.visiting.specs.FirstSearch.{free, first_look, first_engine}
 use Rattle.records.specs.Rules.{claim_of, Keeps, nodes_in}

@@ -1,4 +1,3 @@
-use Prim.Native.Nat.{◌-◌}
 use mathlib.Core.List.{[]}
 use mathlib.Core.Path.{◌≡◌, sym}
 use native.Mathlib.Omega.{arith}

@@ -1,6 +1,5 @@
 use Rattle.functions.proofs.FunctionLaws.{function_arity, function-scope, function-placed}
 use Rattle.scopes.proofs.ScopeLaws.{scope_known}
-use Rattle.placing.specs.Drafts.{Draft}
 use Rattle.placing.specs.Ties.Sheets.{draft_of}
 use Rattle.tokens.proofs.NumberLaws.{in_range}
 use Rattle.tokens.specs.Ties.Outcomes.{num_is, pos_is}

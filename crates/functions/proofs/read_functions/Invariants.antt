@@ -4,7 +4,7 @@ use Rattle.tokens.specs.Tokens.{text_of}
 use Rattle.costs.specs.Limits.{functions_most, entries_most}
 use lib.ListN.{length}
 use mathlib.Core.Path.{◌≡◌}
-use Prim.Native.Nat.{◌≤◌, ◌+◌, ◌-◌}
+use Prim.Native.Nat.{◌≤◌, ◌+◌}
 use Rattle.functions.proofs.read_functions.Given as goal
 
 abbrev pub invariant-loop-left : goal.invariant-loop-left

@@ -1,7 +1,6 @@
 use Rattle.functions.proofs.FunctionLaws.{placed_is, take_one, two_or_more}
 use Rattle.scopes.proofs.ScopeLaws.{small_scope}
 use Rattle.scopes.specs.Scopes.{scope_sizes}
-use Rattle.placing.specs.Drafts.{Draft}
 use Rattle.placing.specs.Ties.Sheets.{draft_of}
 use Rattle.stretches.specs.Ties.Small.{Small}
 use lib.Seq.{length-take-le}

@@ -3,7 +3,6 @@ use Rattle.costs.proofs.RowLaws.{digit_more}
 use Rattle.costs.specs.Limits.{size_most}
 use native.Mathlib.Omega.{arith}
 use mathlib.Core.Path.{refl, sym, ◌∙◌}
-use Prim.Native.Nat.{◌-◌}
 use Rattle.listed_costs.proofs.read_tuple.Goals as goal
 
 pub loop-j-init : goal.loop-j-init

@@ -2,7 +2,6 @@ use Rattle.listed_costs.specs.Listed.{listing}
 use Rattle.tokens.specs.Tokens.{text_of}
 use lib.ListN.{length}
 use mathlib.Core.Path.{◌≡◌}
-use Prim.Native.Nat.{◌-◌}
 use Rattle.listed_costs.proofs.read_tuples.Given as goal
 
 abbrev pub invariant-loop-left : goal.invariant-loop-left

@@ -3,7 +3,6 @@ use Rattle.placing.proofs.StretchLaws.{reached_sums}
 use lib.ListN.{length-set}
 use native.Mathlib.Omega.{arith}
 use mathlib.Core.Path.{refl, ◌∙◌}
-use Prim.Native.Nat.{◌-◌}
 use Rattle.placing.proofs.add_costs.Goals as goal
 
 pub loop-i-init : goal.loop-i-init

@@ -1,7 +1,6 @@
 use Rattle.costs.proofs.RangeLaws.{sum_to_next}
 use native.Mathlib.Omega.{arith}
 use mathlib.Core.Path.{◌≡◌, refl}
-use Prim.Native.Nat.{◌-◌}
 use Rattle.placing.proofs.unary_start.Goals as goal
 
 pub loop-v-init : goal.loop-v-init

@@ -2,7 +2,7 @@ use Rattle.scopes.proofs.ScopeLaws.{sizes_step}
 use lib.ListN.{get_or, length-set}
 use native.Mathlib.Omega.{arith}
 use mathlib.Core.Path.{◌≡◌, refl, ◌∙◌, ap}
-use Prim.Native.Nat.{ℕ, ◌-◌}
+use Prim.Native.Nat.{ℕ}
 use Rattle.scopes.proofs.fill_sizes.Goals as goal
 
 pub loop-j-init : goal.loop-j-init

@@ -2,7 +2,6 @@ use Rattle.scopes.proofs.ScopeLaws.{among_end, among_here, among_next}
 use lib.Seq.{get_or-take, length-take-le}
 use native.Mathlib.Omega.{arith}
 use mathlib.Core.Path.{refl, sym, ◌∙◌}
-use Prim.Native.Nat.{◌-◌}
 use Rattle.scopes.proofs.is_among.Goals as goal
 
 pub loop-j-init : goal.loop-j-init

@@ -5,7 +5,7 @@ use Rattle.costs.specs.Limits.{size_most}
 use lib.ListN.{length, take}
 use mathlib.Core.List.{[]}
 use mathlib.Core.Path.{◌≡◌}
-use Prim.Native.Nat.{◌+◌, ◌-◌, ◌^◌, ◌≤◌}
+use Prim.Native.Nat.{◌+◌, ◌^◌, ◌≤◌}
 use Rattle.scopes.proofs.read_scope.Given as goal
 
 abbrev pub invariant-loop-left : goal.invariant-loop-left

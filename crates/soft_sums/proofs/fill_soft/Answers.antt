@@ -5,7 +5,6 @@ use lib.Seq.{take_all}
 use lib.ListN.{length, length-set}
 use native.Mathlib.Omega.{arith}
 use mathlib.Core.Path.{◌≡◌, refl, sym, ◌∙◌, ap}
-use Prim.Native.Nat.{◌-◌}
 use Rattle.soft_sums.proofs.fill_soft.Goals as goal
 
 pub loop-i-init : goal.loop-i-init

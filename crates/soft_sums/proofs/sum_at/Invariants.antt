@@ -3,7 +3,7 @@ use Rattle.stretches.specs.Sizes.{product}
 use Rattle.costs.specs.Limits.{size_most}
 use lib.ListN.{length, drop}
 use mathlib.Core.Path.{◌≡◌}
-use Prim.Native.Nat.{◌+◌, ◌-◌, ◌*◌, ◌/◌, ◌≤◌}
+use Prim.Native.Nat.{◌+◌, ◌*◌, ◌/◌, ◌≤◌}
 use Rattle.soft_sums.proofs.sum_at.Given as goal
 
 abbrev pub invariant-loop-j : goal.invariant-loop-j

@@ -2,7 +2,6 @@ use Rattle.stretches.proofs.MapLaws.{reached_none, reached_more, reached_map, ma
 use lib.ListN.{length-set}
 use native.Mathlib.Omega.{arith}
 use mathlib.Core.Path.{refl, ◌∙◌}
-use Prim.Native.Nat.{◌-◌}
 use Rattle.stretches.proofs.fill.Goals as goal
 
 pub loop-i-init : goal.loop-i-init

@@ -2,7 +2,7 @@ use Rattle.stretches.proofs.SizeLaws.{product_next, product_all, few_more, few_m
 use Rattle.stretches.specs.Sizes.{product}
 use native.Mathlib.Omega.{arith}
 use native.Mathlib.Nat.{one-mul}
-use Prim.Native.Nat.{◌+◌, ◌-◌}
+use Prim.Native.Nat.{◌+◌}
 use Rattle.stretches.proofs.product_of.Goals as goal
 
 pub loop-j-init : goal.loop-j-init

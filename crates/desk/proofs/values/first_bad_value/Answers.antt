@@ -8,7 +8,7 @@ use lib.ListN.{get_or}
 use lib.Dec.{ltb}
 use mathlib.Core.Path.{◌≡◌, sym}
 use mathlib.Core.Bool.{Bool, true, not}
-use Prim.Native.Nat.{ℕ, ◌-◌}
+use Prim.Native.Nat.{ℕ}
 use borrow.Author.Rules.{rules}
 use Rattle.desk.proofs.values.first_bad_value.Goals as goal
 

@@ -3,7 +3,6 @@ use Rattle.records.specs.Words.{word_at}
 use Rattle.boxes.proofs.PlaceLaws.{filled_more}
 use native.Mathlib.Omega.{arith}
 use lib.ListN.{length-set}
-use Prim.Native.Nat.{◌-◌}
 use borrow.Author.Rules.{rules}
 use Rattle.desk.proofs.values.plan_told.Goals as goal
 

@@ -2,7 +2,7 @@ use Rattle.headings.specs.Domains.{domains}
 use Rattle.tokens.specs.Tokens.{text_of}
 use Rattle.costs.specs.Limits.{size_most}
 use mathlib.Core.Path.{◌≡◌}
-use Prim.Native.Nat.{◌+◌, ◌-◌, ◌*◌, ◌≤◌}
+use Prim.Native.Nat.{◌+◌, ◌*◌, ◌≤◌}
 use Rattle.headings.proofs.domains.read_domains.Given as goal
 
 abbrev pub invariant-loop-left : goal.invariant-loop-left

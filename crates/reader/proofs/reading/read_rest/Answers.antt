@@ -1,5 +1,4 @@
 use Rattle.reader.proofs.ReadingLaws.{first_draft, rest-functions, rest_after, rest_done, end_untold}
-use Rattle.reader.specs.Reading.{started}
 use Rattle.reader.specs.Ties.Sizes.{sized_by}
 use Rattle.headings.proofs.DomainLaws.{total_most}
 use Rattle.functions.proofs.FunctionLaws.{counted_in}
@@ -8,7 +7,7 @@ use Rattle.placing.specs.Ties.Sheets.{draft_of}
 use Rattle.costs.specs.Limits.{row_places, functions_most, entries_most}
 use lib.ListN.{length, replicate, get_or}
 use native.Mathlib.Omega.{arith}
-use mathlib.Core.Path.{◌≡◌, refl, ◌∙◌}
+use mathlib.Core.Path.{refl, ◌∙◌}
 use Prim.Native.Nat.{ℕ, ◌≤◌, ◌*◌}
 use mathlib.Core.List.{List}
 use Rattle.headings.specs.declared.headers.Head.{Head}

@@ -3,7 +3,6 @@ use Rattle.costs.proofs.NetLaws.{All-at, All-by}
 use Rattle.costs.proofs.TestLaws.{yes_by, no_by}
 use native.Mathlib.Omega.{arith}
 use native.Mathlib.Decide.{ℕ_discrete}
-use Prim.Native.Nat.{◌-◌}
 use Rattle.tokens.proofs.names.is_name.Goals as goal
 
 pub returns-then-w-lt1 : goal.returns-then-w-lt1

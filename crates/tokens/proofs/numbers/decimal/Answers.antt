@@ -1,10 +1,7 @@
 use Rattle.tokens.proofs.DigitLaws.{short, long, fair, digit_low, digit_high, digit_more, digits_end, ten_more, ten_room}
-use Rattle.tokens.specs.TextLimits.{digits_most}
-use lib.ListN.{length}
 use lib.Dec.{lit<}
 use native.Mathlib.Omega.{arith}
 use mathlib.Core.Path.{◌∙◌}
-use Prim.Native.Nat.{◌-◌, ◌<◌, ◌^◌}
 use Rattle.tokens.proofs.numbers.decimal.Goals as goal
 
 pub returns-then-w-lt1 : goal.returns-then-w-lt1

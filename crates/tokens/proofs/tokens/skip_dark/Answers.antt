@@ -3,7 +3,6 @@ use Rattle.tokens.specs.Tokens.{dark}
 use native.Mathlib.Omega.{arith}
 use mathlib.Core.Bool.{not}
 use mathlib.Core.Path.{sym, ap, ◌∙◌}
-use Prim.Native.Nat.{◌-◌}
 use Rattle.tokens.proofs.tokens.skip_dark.Goals as goal
 
 pub returns-then-is_white : goal.returns-then-is_white

@@ -2,7 +2,6 @@ use Rattle.tokens.proofs.PastLaws.{past_end, past_stop, past_more}
 use Rattle.tokens.specs.Tokens.{white}
 use native.Mathlib.Omega.{arith}
 use mathlib.Core.Path.{sym, ◌∙◌}
-use Prim.Native.Nat.{◌-◌}
 use Rattle.tokens.proofs.tokens.skip_white.Goals as goal
 
 pub returns-then-not-is_white : goal.returns-then-not-is_white

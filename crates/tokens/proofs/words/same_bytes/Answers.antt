@@ -1,7 +1,6 @@
 use Rattle.tokens.proofs.WordLaws.{same_long, same_end, same_stop, same_more}
 use native.Mathlib.Omega.{arith}
 use mathlib.Core.Path.{refl, sym, ◌∙◌}
-use Prim.Native.Nat.{◌-◌}
 use Rattle.tokens.proofs.words.same_bytes.Goals as goal
 
 pub returns-then-a-b : goal.returns-then-a-b
