@@ -5,9 +5,9 @@ set -eu
 cd "$(dirname "$0")/.."
 for program in "$@"; do
     rm -f "crates/$program/out/$program"
-    rt run "$program" < /dev/null > /dev/null 2> /dev/null || true
+    (cd "crates/$program" && rt run < /dev/null > /dev/null 2> /dev/null) || true
     if [ ! -x "crates/$program/out/$program" ]; then
-        echo "$program was not made: 'rt check $program' tells why" >&2
+        echo "$program was not made: rt check in crates/$program tells why" >&2
         exit 1
     fi
 done

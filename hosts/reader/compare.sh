@@ -4,7 +4,7 @@ set -eu
 root=$(cd "$(dirname "$0")/../.." && pwd)
 cd "$root"
 hosts/make.sh trials
-rt lib reader_host > /dev/null
+(cd crates/reader_host && rt lib > /dev/null)
 dir=$(mktemp -d)
 trap 'rm -rf "$dir"' EXIT
 rustc -O -o "$dir/compare" -L crates/reader_host/out -l static=reader_host hosts/reader/compare.rs

@@ -37,9 +37,10 @@ fn searched(top: u64, found: Searched) -> Lines
     if number(answer) != 0 {
         return refusal(answer);
     }
+    let many = found.nodes;
     let outcome = outcome(top, found);
     let word = with_word(outcome, b"\nnodes ");
-    let nodes = with_number(word, found.nodes);
+    let nodes = with_number(word, many);
     with_word(nodes, b"\n")
 }
 
