@@ -11,7 +11,7 @@ use costs::networks::wide;
 use costs::plans::Plan;
 use std::env::{Env, FillError};
 use std::io::{Error, ErrorKind, Read, Write};
-use std::{fs, io, str};
+use std::{fs, str};
 
 // An argument longer than this is not read. No path that can be opened is longer.
 pub const ARGUMENT: usize = 4_096;
