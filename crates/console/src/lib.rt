@@ -1,7 +1,8 @@
 // What the programs share: their arguments, inputs read whole, and the lines that they write, piece by piece.
 #![tactic(auto)]
 
-ghost use Rattle.std.specs.Prelude.{◌≡◌};
+ghost use Rattle.std.specs.Prelude.{◌≡◌, ◌<◌, length, take, None};
+ghost use Rattle.std.specs.Io.KnownBytes.{Consumes, IsAtEnd};
 ghost use Rattle.io.specs.Counts.{IsPrefixLen};
 
 use answers::Answer;
@@ -10,7 +11,7 @@ use costs::networks::wide;
 use costs::plans::Plan;
 use std::env::{Env, FillError};
 use std::io::{Error, ErrorKind, Read, Write};
-use std::{fs, io, str};
+use std::{fs, str};
 
 // An argument longer than this is not read. No path that can be opened is longer.
 pub const ARGUMENT: usize = 4_096;
@@ -30,9 +31,12 @@ pub struct Came {
     pub failed: Option<Error>,
 }
 
-// Reads on until the buffer is full or the input ends, however few bytes a read delivers.
+// Reads on until the buffer is full or the input ends, however few bytes a read delivers. Of a reader whose bytes are known, those that came are the
+// first ones that it had left, in their order.
 pub fn read_in<R: Read>(from: &mut R, buffer: &mut [u8]) -> Came
-    ensures { IsPrefixLen result.many buffer.new }
+    ensures counted { IsPrefixLen result.many buffer.new }
+    ensures bytes { Consumes (R.remaining from.old) (R.remaining from.new) (take result.many buffer.new) }
+    ensures whole { result.failed ≡ None → result.many < length buffer.new → IsAtEnd (R.remaining from.new) }
 {
     let mut many: usize = 0;
     while many < buffer.len() {
