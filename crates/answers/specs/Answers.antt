@@ -1,36 +1,49 @@
 -- "When the desk says no": this paper's number and place for each case of the answer; 0 and 0 where nothing is refused.
-use Rattle.std.specs.Prelude.{ℕ}
-use Rattle.answers.specs.declared.Answer.{Answer}
-use Rattle.answers.specs.declared.Answer.TheVariants.{Done, LongText, BadToken, OutOfRange, Unfitting, ListedTwice, TextAfter, ShortTable, NotNetwork, BadPlan, Illegal, OverBudget, LongRecord, BrokenRule}
+use Rattle.std.specs.Prelude.{ℕ, Result, Ok, Err}
+use Rattle.answers.specs.declared.Refusal.{Refusal}
+use Rattle.answers.specs.declared.Refusal.TheVariants.{LongText, BadToken, OutOfRange, Unfitting, ListedTwice, TextAfter, ShortTable, NotNetwork, BadPlan, Illegal, OverBudget, LongRecord, BrokenRule}
+
+-- success, or a refusal
+abbrev pub Answer : Type 0
+Answer = Result (Unit {0}) Refusal
+
+abbrev pub Done : Answer
+Done = Ok tt
+
+abbrev pub refusal_number : Refusal → ℕ
+refusal_number LongText = 1
+refusal_number (BadToken at) = 2
+refusal_number (OutOfRange at) = 3
+refusal_number (Unfitting at) = 4
+refusal_number (ListedTwice at) = 5
+refusal_number (TextAfter at) = 6
+refusal_number ShortTable = 7
+refusal_number NotNetwork = 8
+refusal_number (BadPlan at) = 9
+refusal_number Illegal = 10
+refusal_number OverBudget = 11
+refusal_number LongRecord = 12
+refusal_number (BrokenRule at) = 13
+
+abbrev pub refusal_place : Refusal → ℕ
+refusal_place LongText = 0
+refusal_place (BadToken at) = at
+refusal_place (OutOfRange at) = at
+refusal_place (Unfitting at) = at
+refusal_place (ListedTwice at) = at
+refusal_place (TextAfter at) = at
+refusal_place ShortTable = 0
+refusal_place NotNetwork = 0
+refusal_place (BadPlan at) = at
+refusal_place Illegal = 0
+refusal_place OverBudget = 0
+refusal_place LongRecord = 0
+refusal_place (BrokenRule at) = at
 
 abbrev pub number_of : Answer → ℕ
-number_of Done = 0
-number_of LongText = 1
-number_of (BadToken at) = 2
-number_of (OutOfRange at) = 3
-number_of (Unfitting at) = 4
-number_of (ListedTwice at) = 5
-number_of (TextAfter at) = 6
-number_of ShortTable = 7
-number_of NotNetwork = 8
-number_of (BadPlan at) = 9
-number_of Illegal = 10
-number_of OverBudget = 11
-number_of LongRecord = 12
-number_of (BrokenRule at) = 13
+number_of (Ok done) = 0
+number_of (Err refusal) = refusal_number refusal
 
 abbrev pub place_of : Answer → ℕ
-place_of Done = 0
-place_of LongText = 0
-place_of (BadToken at) = at
-place_of (OutOfRange at) = at
-place_of (Unfitting at) = at
-place_of (ListedTwice at) = at
-place_of (TextAfter at) = at
-place_of ShortTable = 0
-place_of NotNetwork = 0
-place_of (BadPlan at) = at
-place_of Illegal = 0
-place_of OverBudget = 0
-place_of LongRecord = 0
-place_of (BrokenRule at) = at
+place_of (Ok done) = 0
+place_of (Err refusal) = refusal_place refusal

@@ -2,11 +2,10 @@
 #![tactic(auto)]
 
 ghost use Rattle.std.specs.Prelude.{◌≡◌};
-ghost use Rattle.answers.specs.Answers.{number_of, place_of};
+ghost use Rattle.answers.specs.Answers.{number_of, place_of, refusal_number, refusal_place};
 
-#[derive(Clone, Copy)]
-pub enum Answer {
-    Done,
+#[derive(Clone, Copy, Debug, PartialEq, Eq)]
+pub enum Refusal {
     // 1: text over 65,536 bytes
     LongText,
     // 2: token missing or not of its kind
@@ -35,25 +34,59 @@ pub enum Answer {
     BrokenRule(usize),
 }
 
+pub type Answer = Result<(), Refusal>;
+
+impl Refusal {
+    // The paper's number of it.
+    pub fn number(self) -> u64
+        ensures { result ≡ refusal_number self }
+    {
+        match self {
+            Refusal::LongText => 1,
+            Refusal::BadToken(_) => 2,
+            Refusal::OutOfRange(_) => 3,
+            Refusal::Unfitting(_) => 4,
+            Refusal::ListedTwice(_) => 5,
+            Refusal::TextAfter(_) => 6,
+            Refusal::ShortTable => 7,
+            Refusal::NotNetwork => 8,
+            Refusal::BadPlan(_) => 9,
+            Refusal::Illegal => 10,
+            Refusal::OverBudget => 11,
+            Refusal::LongRecord => 12,
+            Refusal::BrokenRule(_) => 13,
+        }
+    }
+
+    // The place that comes back beside that number.
+    pub fn place(self) -> usize
+        ensures { result ≡ refusal_place self }
+    {
+        match self {
+            Refusal::BadToken(at)
+            | Refusal::OutOfRange(at)
+            | Refusal::Unfitting(at)
+            | Refusal::ListedTwice(at)
+            | Refusal::TextAfter(at)
+            | Refusal::BadPlan(at)
+            | Refusal::BrokenRule(at) => at,
+            Refusal::LongText
+            | Refusal::ShortTable
+            | Refusal::NotNetwork
+            | Refusal::Illegal
+            | Refusal::OverBudget
+            | Refusal::LongRecord => 0,
+        }
+    }
+}
+
 // The paper's number of an answer, 0 where nothing is refused.
 pub fn number(answer: Answer) -> u64
     ensures { result ≡ number_of answer }
 {
     match answer {
-        Answer::Done => 0,
-        Answer::LongText => 1,
-        Answer::BadToken(_) => 2,
-        Answer::OutOfRange(_) => 3,
-        Answer::Unfitting(_) => 4,
-        Answer::ListedTwice(_) => 5,
-        Answer::TextAfter(_) => 6,
-        Answer::ShortTable => 7,
-        Answer::NotNetwork => 8,
-        Answer::BadPlan(_) => 9,
-        Answer::Illegal => 10,
-        Answer::OverBudget => 11,
-        Answer::LongRecord => 12,
-        Answer::BrokenRule(_) => 13,
+        Ok(()) => 0,
+        Err(refusal) => refusal.number(),
     }
 }
 
@@ -62,19 +95,7 @@ pub fn place(answer: Answer) -> usize
     ensures { result ≡ place_of answer }
 {
     match answer {
-        Answer::Done => 0,
-        Answer::LongText => 0,
-        Answer::BadToken(at) => at,
-        Answer::OutOfRange(at) => at,
-        Answer::Unfitting(at) => at,
-        Answer::ListedTwice(at) => at,
-        Answer::TextAfter(at) => at,
-        Answer::ShortTable => 0,
-        Answer::NotNetwork => 0,
-        Answer::BadPlan(at) => at,
-        Answer::Illegal => 0,
-        Answer::OverBudget => 0,
-        Answer::LongRecord => 0,
-        Answer::BrokenRule(at) => at,
+        Ok(()) => 0,
+        Err(refusal) => refusal.place(),
     }
 }

@@ -1,15 +1,8 @@
 -- One value more of a dimension is the box of the other dimensions, one stride on: the turn of every loop over a box, at any arity. Assumes nothing.
-use Prim.Native.Nat.{ℕ, zero, suc, ◌+◌, ◌*◌, ◌/◌, ◌%◌, ◌≤◌, ◌<◌, min}
-use mathlib.Core.Path.{◌≡◌, refl, sym, ap, ◌∙◌, fun_ext}
-use mathlib.Core.Bool.{Bool, true, false, cond, ◌&&◌}
-use mathlib.Core.List.{List, [], ◌∷◌}
-use native.Mathlib.Omega.{arith}
-use native.Mathlib.Nat.{mul-le-mul_right, suc-mul, div-add-mod', mod-lt}
+use Rattle.std.proofs.Common.{ℕ, zero, suc, ◌+◌, ◌*◌, ◌/◌, ◌%◌, ◌≤◌, ◌<◌, min, ◌≡◌, refl, sym, ap, ◌∙◌, Bool, true, false, cond, ◌&&◌, List, [], ◌∷◌, arith, mul-le-mul_right, suc-mul, div-add-mod', mod-lt, get_or, set, length, get_or-set_same, get_or-set_other, T, ltb, leb→le, le→leb, ltb→lt, lt→ltb}
+use mathlib.Core.Path.{fun_ext}
 use native.Mathlib.Decide.{ℕ_discrete, dec_le}
-use lib.ListN.{get_or, set, length}
-use lib.Seq.{get_or-set_same, get_or-set_other}
 use lib.Arith.{digits_lt, digits_div, digits_mod}
-use lib.Dec.{T, ltb, leb→le, le→leb, ltb→lt, lt→ltb}
 use Rattle.costs.proofs.TestLaws.{is_true, is_false, same_test, both, and}
 use Rattle.boxes.specs.Loops.{least_to}
 use Rattle.boxes.specs.Places.{in_stretch}
@@ -228,3 +221,6 @@ box_least_step at d from v top t r r' h l inv m =
 -- the box of a value lies in the whole
 pub box_fits : (at d s v n : ℕ) → v < d → at + d * s ≤ n → at + v * s + s ≤ n
 box_fits at d s v n l h = omega (arith, suc-mul v s, mul-le-mul_right s l)
+
+-- what every loop over a box asks
+pub ruleset loops = (box_on_none, box_least_none, box_fits)

@@ -1,13 +1,7 @@
 -- Laws of loops over the numbers below n. Assumes nothing.
-use Prim.Native.Nat.{ℕ, zero, suc, ◌+◌, ◌*◌, ◌≤◌, ◌<◌}
-use mathlib.Core.Path.{◌≡◌, refl, ◌∙◌}
-use mathlib.Core.Bool.{Bool, true, false, cond}
-use native.Mathlib.Omega.{arith}
-use native.Mathlib.Nat.{suc-mul}
-use native.Mathlib.Numerals.{add-one}
+use Rattle.std.proofs.Common.{ℕ, zero, suc, ◌+◌, ◌*◌, ◌≤◌, ◌<◌, ◌≡◌, refl, ◌∙◌, Bool, true, false, cond, arith, suc-mul, add-one, T}
 use native.Mathlib.Decide.{ℕ_discrete}
 use lib.Arith.{le-zero}
-use lib.Dec.{T}
 use Rattle.costs.proofs.TestLaws.{is_true}
 use Rattle.boxes.specs.Loops.{each_to, least_to}
 

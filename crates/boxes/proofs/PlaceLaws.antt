@@ -1,16 +1,11 @@
 -- Laws of stretches of a table, and of costs as functions of the place. Assumes nothing.
-use Prim.Native.Nat.{ℕ, ◌+◌, ◌-◌, ◌≤◌, ◌<◌}
-use mathlib.Core.Path.{◌≡◌, fun_ext}
-use mathlib.Core.Bool.{Bool}
-use mathlib.Core.List.{List}
-use native.Mathlib.Omega.{arith}
+use Rattle.std.proofs.Common.{ℕ, ◌+◌, ◌-◌, ◌≤◌, ◌<◌, ◌≡◌, Bool, List, arith, T, leb, ltb, leb→le, le→leb, ltb→lt, lt→ltb, length, get_or, set, get_or-set_same, get_or-set_other}
+use mathlib.Core.Path.{fun_ext}
 use native.Mathlib.Nat.{add-sub_cancel_left}
 use native.Mathlib.Decide.{ℕ_discrete}
-use lib.Dec.{T, leb, ltb, leb→le, le→leb, ltb→lt, lt→ltb}
-use lib.ListN.{length, get_or, set}
-use lib.Seq.{get_or-set_same, get_or-set_other}
 use Rattle.costs.specs.Net.{Costs}
 use Rattle.costs.proofs.TestLaws.{is_true, both}
+pub use Rattle.costs.proofs.RangeLaws.{filled_more}
 use Rattle.boxes.specs.Places.{in_stretch}
 
 pub in_stretch-range : (s n : ℕ) (these : ℕ → Bool) (j : ℕ) → T (in_stretch s n these j) → (s ≤ j) × (j < s + n)
@@ -31,10 +26,3 @@ in_stretch_at s n these e l =
 -- costs are equal where they agree at every place
 pub costs-same : (c d : Costs) → c.constant ≡ d.constant → ((j : ℕ) → c.at j ≡ d.at j) → c ≡ d
 costs-same c d e h = λ i. record { constant = e i; at = fun_ext h i }
-
--- a list that holds g below v holds it below v + 1 after one store
-pub filled_more : (g : ℕ → ℕ) (l : List ℕ) (v x : ℕ) → v < length l → x ≡ g v → ((w : ℕ) → w < v → get_or l w 0 ≡ g w) → (w : ℕ) → w < v + 1 → get_or (set l v x) w 0 ≡ g w
-filled_more g l v x h e f w m = elim (ℕ_discrete w v) [
-  | yes q ↦ rw (q, get_or-set_same l v x 0 h) e
-  | no q ↦ rw (get_or-set_other l v w x 0 q) (f w (omega arith))
-]

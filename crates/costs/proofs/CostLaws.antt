@@ -1,10 +1,6 @@
 -- Laws of ⊕ and ⊖. Assumes nothing.
-use Prim.Native.Nat.{ℕ, zero, suc, ◌+◌, ◌-◌, ◌≤◌, ◌<◌, min}
-use mathlib.Core.Path.{◌≡◌, refl}
-use mathlib.Core.Bool.{Bool, true, false, cond, not}
-use mathlib.Core.Logic.{◌⊎◌, inl, inr, ⊎_elim}
-use native.Mathlib.Omega.{arith}
-use lib.Dec.{T, leb, leb→le, nleb→lt}
+use Rattle.std.proofs.Common.{ℕ, zero, suc, ◌+◌, ◌-◌, ◌≤◌, ◌<◌, min, ◌≡◌, refl, Bool, true, false, cond, not, ◌⊎◌, inl, inr, ⊎_elim, arith, T, leb, leb→le}
+use lib.Dec.{nleb→lt}
 use Rattle.costs.specs.Range.{sum_to}
 use Rattle.costs.specs.Cost.{plus, minus, plus_to}
 

@@ -1,8 +1,5 @@
 -- What a cost gives, by cases. Assumes nothing.
-use Prim.Native.Nat.{ℕ, ◌-◌, ◌≤◌, ◌<◌}
-use mathlib.Core.Path.{◌≡◌}
-use mathlib.Core.Logic.{⊎_elim}
-use native.Mathlib.Omega.{arith}
+use Rattle.std.proofs.Common.{ℕ, ◌-◌, ◌≤◌, ◌<◌, ◌≡◌, ⊎_elim, arith}
 use Rattle.costs.specs.Cost.{minus}
 use Rattle.costs.proofs.CostLaws.{minus_cases}
 

@@ -5,3 +5,4 @@ pub mod CostLaws
 pub mod GivingLaws
 pub mod NetLaws
 pub mod RowLaws
+pub mod ScopeLaws

@@ -1,10 +1,6 @@
 -- Laws of entries, stretches and prices, over any arity. Assumes nothing.
-use Prim.Native.Nat.{ℕ, zero, suc, ◌+◌, ◌≤◌, ◌<◌, min}
-use mathlib.Core.Path.{◌≡◌, refl}
-use mathlib.Core.List.{List, [], ◌∷◌, ◌++◌}
-use native.Mathlib.Omega.{arith}
+use Rattle.std.proofs.Common.{ℕ, zero, suc, ◌+◌, ◌≤◌, ◌<◌, min, ◌≡◌, refl, List, [], ◌∷◌, ◌++◌, arith, length, get_or}
 use lib.Arith.{digits_lt}
-use lib.ListN.{length, get_or}
 use Rattle.costs.specs.Range.{sum_to}
 use Rattle.costs.specs.Net.{Net, Costs, Sound, IsPlan, All, tuples, entry, start, entries, touched, price}
 use Rattle.costs.proofs.RangeLaws.{sum_to-same, sum_to_mono}

@@ -1,14 +1,10 @@
 -- Laws of sums, products and tests over the numbers below n. Assumes nothing.
-use Prim.Native.Nat.{ℕ, zero, suc, ◌+◌, ◌*◌, ◌≤◌, ◌<◌}
-use mathlib.Core.Path.{◌≡◌, refl, sym, ap, ◌∙◌}
-use mathlib.Core.Bool.{Bool, true, false, cond}
-use mathlib.Core.Logic.{◌≢◌}
-use native.Mathlib.Omega.{arith}
-use native.Mathlib.Nat.{mul_assoc, mul_comm, mul-le-mul}
-use native.Mathlib.Numerals.{add-one}
+use Rattle.std.proofs.Common.{ℕ, zero, suc, ◌+◌, ◌*◌, ◌≤◌, ◌<◌, ◌≡◌, refl, sym, ap, ◌∙◌, Bool, true, false, cond, ◌≢◌, arith, mul_assoc, mul_comm, mul-le-mul, add-one, T, ltb, ltb→lt, lt→ltb}
 use native.Mathlib.Decide.{ℕ_discrete, dec_le}
 use lib.Arith.{le-zero}
-use lib.Dec.{T, ltb, ltb→lt, lt→ltb}
+use mathlib.Core.List.{List}
+use lib.ListN.{length, get_or, set}
+use lib.Seq.{get_or-set_same, get_or-set_other}
 use Rattle.costs.specs.Range.{sum_to, product_to, all_to, first_to}
 use Rattle.costs.proofs.TestLaws.{is_true, is_false, not_so, by_all, by_self}
 
@@ -134,3 +130,10 @@ first_to_some n t a l h = elim (dec_le (first_to n t) a) [ yes q ↦ q | no q �
 pub all_to-same : (n : ℕ) (t u : ℕ → Bool) → ((i : ℕ) → i < n → t i ≡ u i) → all_to n t ≡ all_to n u
 all_to-same zero t u h = refl
 all_to-same (suc n) t u h = rw (all_to-same n t u (λ i l. h i (omega arith)), h n (omega arith))
+
+-- a list that holds g below v holds it below v + 1 after one store
+pub filled_more : (g : ℕ → ℕ) (l : List ℕ) (v x : ℕ) → v < length l → x ≡ g v → ((w : ℕ) → w < v → get_or l w 0 ≡ g w) → (w : ℕ) → w < v + 1 → get_or (set l v x) w 0 ≡ g w
+filled_more g l v x h e f w m = elim (ℕ_discrete w v) [
+  | yes q ↦ rw (q, get_or-set_same l v x 0 h) e
+  | no q ↦ rw (get_or-set_other l v w x 0 q) (f w (omega arith))
+]

@@ -1,18 +1,11 @@
 -- Laws of rows: a scope read place by place, as a loop over its arity has it. Assumes nothing.
-use Prim.Native.Nat.{ℕ, zero, suc, ◌+◌, ◌-◌, ◌*◌, ◌^◌, ◌≤◌, ◌<◌}
-use mathlib.Core.Path.{◌≡◌, refl, ◌∙◌}
-use mathlib.Core.List.{List, [], ◌∷◌}
-use native.Mathlib.Omega.{arith}
+use Rattle.std.proofs.Common.{ℕ, zero, suc, ◌+◌, ◌-◌, ◌*◌, ◌^◌, ◌≤◌, ◌<◌, ◌≡◌, refl, ◌∙◌, List, [], ◌∷◌, arith, mul_assoc, add-mul, mul-le-mul, mul-le-mul_left, mul-le-mul_right, suc-mul, pow-suc, add-one, ltb, lt→ltb, ltb→lt, length, get_or, take, drop, length-take}
 use native.Mathlib.Decide.{dec_lt}
-use native.Mathlib.Nat.{mul_assoc, add-mul, mul-le-mul, mul-le-mul_left, mul-le-mul_right, suc-mul, pow-zero, pow-suc, pow-succ', pow-le-pow_right}
-use native.Mathlib.Numerals.{add-one}
-use lib.Dec.{ltb, lt→ltb, ltb→lt}
-use lib.ListN.{length, get_or, take, drop, length-take}
+use native.Mathlib.Nat.{pow-zero, pow-succ', pow-le-pow_right}
 use Rattle.costs.specs.Limits.{size_most}
 use Rattle.costs.specs.Range.{sum_to}
 use Rattle.costs.specs.Net.{Sound, All, tuples, entry, start_of}
-use Rattle.costs.specs.Networks.{in_row, scope_in, scopes_of, sizes_of, function_start, net_of, Scoped}
-use Rattle.costs.specs.declared.networks.Outline.{Outline}
+use Rattle.costs.specs.Networks.{Outline, in_row, scope_in, scopes_of, sizes_of, function_start, net_of, Scoped}
 use Rattle.costs.proofs.TestLaws.{is_true, is_false}
 use Rattle.costs.proofs.RangeLaws.{sum_to-same}
 use Rattle.costs.proofs.NetLaws.{All-map}

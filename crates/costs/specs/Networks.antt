@@ -1,9 +1,16 @@
 -- How the struct stands for a network. What is said of a network speaks of places below its counts alone.
 use Rattle.std.specs.Prelude.{ℕ, ◌+◌, ◌-◌, ◌*◌, ◌≤◌, ◌<◌, ◌≡◌, cond, List, [], ◌∷◌, ltb, get_or, take}
 use Rattle.costs.specs.declared.networks.Network.{Network}
-use Rattle.costs.specs.declared.networks.Outline.{Outline}
 use Rattle.costs.specs.Limits.{vars_most, size_most, arity_most, row_places, functions_most, cost_most, entries_most}
 use Rattle.costs.specs.Net.{Net, All, start_of, entries}
+
+-- the numbers of a network that always travel together: k, the constant among the held costs, N, how many functions are numbered, and E
+pub record Outline : Type 0 where
+  pub top : ℕ
+  pub constant : ℕ
+  pub vars : ℕ
+  pub functions : ℕ
+  pub entries : ℕ
 
 -- place j of function f's row: its arity at 0, then its variables
 abbrev pub in_row : List ℕ → ℕ → ℕ → ℕ

@@ -1,36 +1,22 @@
-// Capped costs: ⊕, ⊖ and the lower of two.
-ghost use Rattle.std.specs.Prelude.{◌≡◌, min};
+// Capped costs: ⊕ and ⊖.
+ghost use Rattle.std.specs.Prelude.{◌≡◌};
 ghost use Rattle.costs.specs.Cost.{plus, minus};
 
 // a ⊕ b
 pub fn plus_of(top: u64, a: u64, b: u64) -> u64
     ensures { result ≡ plus top a b }
 {
-    if top <= a {
-        return top;
-    }
-    if top - a <= b {
-        return top;
-    }
-    a + b
+    top.min(a.saturating_add(b))
 }
 
 // cost ⊖ amount
+#[tactic(auto, unfolding(crate::specs::Cost::minus))]
 pub fn minus_of(top: u64, cost: u64, amount: u64) -> u64
     ensures { result ≡ minus top cost amount }
 {
     if top <= cost {
-        return top;
+        top
+    } else {
+        cost.saturating_sub(amount)
     }
-    if cost <= amount {
-        return 0;
-    }
-    cost - amount
-}
-
-// The lower of two.
-pub fn lower(a: u64, b: u64) -> u64
-    ensures { result ≡ min a b }
-{
-    if b < a { b } else { a }
 }

@@ -1,15 +1,13 @@
 -- Refusals 8 and 7. "A network, for 8, has ranges, scopes, stretches and costs as this paper says"; "8, 7, then the rest in table order".
-use Rattle.std.specs.Prelude.{ℕ, ◌≤◌, ◌<◌, min, Bool, cond, ◌&&◌, List, leb, ltb, eqb, length, get_or}
-use Rattle.answers.specs.declared.Answer.{Answer}
-use Rattle.answers.specs.declared.Answer.TheVariants.{ShortTable, NotNetwork}
+use Rattle.std.specs.Prelude.{ℕ, ◌≤◌, ◌<◌, min, Bool, cond, ◌&&◌, List, leb, ltb, eqb, length, get_or, Err, Result, Ok}
+use Rattle.answers.specs.Answers.{Answer}
+use Rattle.answers.specs.declared.Refusal.TheVariants.{ShortTable, NotNetwork}
 use Rattle.costs.specs.declared.networks.Network.{Network}
 use Rattle.costs.specs.Limits.{vars_most, size_most, arity_most, functions_most, cost_most, entries_most}
 use Rattle.costs.specs.Range.{all_to}
 use Rattle.costs.specs.Net.{entries}
 use Rattle.costs.specs.Tests.{between, every, different, Different}
-use Rattle.costs.specs.Networks.{in_row, scope_in, function_start, outline_of, stands, Ready}
-use Rattle.judging.specs.declared.Judged.{Judged}
-use Rattle.judging.specs.declared.Judged.TheVariants.{Fit, Refused}
+use Rattle.costs.specs.Networks.{Outline, in_row, scope_in, function_start, outline_of, stands, Ready}
 use Rattle.judging.specs.declared.Unfit.{Unfit}
 use Rattle.judging.specs.declared.Unfit.TheVariants.{NoNetwork, TooShort}
 
@@ -56,17 +54,21 @@ pub record IsNetwork (net : Network) (t : List ℕ) : Type 0 where
   pub distinct : (f : ℕ) → f < net.functions → Different (scope_in (in_row net.scopes f))
   pub costs : (j : ℕ) → j < entries (stands net) → j < length t → get_or t j 0 ≤ net.top
 
+-- the network's outline, or why it is refused
+abbrev pub Judgement : Type 0
+Judgement = Result Outline Unfit
+
 -- 8, then 7: `room` is the length of the shortest table lent. Where neither is given, the network's outline
-unfoldable pub judged : Network → List ℕ → ℕ → Judged
+unfoldable pub judged : Network → List ℕ → ℕ → Judgement
 judged net t room =
     cond (is_network net t)
-    (cond (leb (entries (stands net)) room) (Fit (outline_of net)) (Refused TooShort))
-    (Refused NoNetwork)
+    (cond (leb (entries (stands net)) room) (Ok (outline_of net)) (Err TooShort))
+    (Err NoNetwork)
 
 -- the answer of a refusal of the judge's
 abbrev pub refusal_of : Unfit → Answer
-refusal_of NoNetwork = NotNetwork
-refusal_of TooShort = ShortTable
+refusal_of NoNetwork = Err NotNetwork
+refusal_of TooShort = Err ShortTable
 
 -- "Lent working room enough": a network with its held costs, and neither table is shorter than E
 pub record Lent (net : Network) (held : List ℕ) (room : ℕ) : Type 0 where

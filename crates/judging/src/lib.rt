@@ -1,255 +1,172 @@
 // The judge of a network beside a table: refusals 8 and 7. Every call that is lent a network asks it first.
 #![tactic(auto)]
 
-ghost use Rattle.std.specs.Prelude.{◌≡◌, [], ◌∷◌, ℕ, ◌*◌, ◌≤◌, ◌<◌, length, get_or};
+pub mod judged;
+pub mod starts;
+
+ghost use Rattle.std.specs.Prelude.{◌≡◌, [], ◌∷◌, ℕ, ◌*◌, ◌≤◌, ◌<◌, Err, leb, get_or, IfOk};
+ghost use Rattle.std.specs.List.{list_all};
 ghost use Rattle.costs.specs.Limits.{vars_most, size_most, functions_most};
 ghost use Rattle.costs.specs.Range.{sum_to};
 ghost use Rattle.costs.specs.Networks.{in_row, Scoped};
 ghost use Rattle.judging.specs.Judging.{ranges_good, sizes_good, variables_good, row_good, scopes_good, costs_good, judged, refusal_of};
 ghost use Rattle.judging.specs.Ties.Stretches.{stretched};
+ghost use Rattle.judging.specs.Ties.Outlined.{outlined};
 
-use answers::Answer;
-use costs::limits::{COST, ENTRIES, FUNCTIONS, ROWS, SIZE, VARS};
-use costs::networks::{Outline, byte_at, row_at, start_at, tuples_of};
+use crate::judged::Judged;
+use crate::starts::unary_starts;
+use answers::Refusal;
+use costs::limits::{COST, ENTRIES, FUNCTIONS, SIZE, VARS};
+use costs::networks::{Network, row_at};
 
 // Why numbers beside a table do not fit: 8, or 7.
-#[derive(Clone, Copy)]
+#[derive(Clone, Copy, Debug, PartialEq, Eq)]
 pub enum Unfit {
     NoNetwork,
     TooShort,
 }
 
-// The network's outline, or the refusal.
-#[derive(Clone, Copy)]
-pub enum Judged {
-    Fit(Outline),
-    Refused(Unfit),
-}
-
-pub fn refusal(why: Unfit) -> Answer
-    ensures { result ≡ refusal_of why }
+pub fn refusal(why: Unfit) -> Refusal
+    ensures { Err result ≡ refusal_of why }
 {
     match why {
-        Unfit::NoNetwork => Answer::NotNetwork,
-        Unfit::TooShort => Answer::ShortTable,
+        Unfit::NoNetwork => Refusal::NotNetwork,
+        Unfit::TooShort => Refusal::ShortTable,
     }
 }
 
-pub fn judge<'a>(
-    sizes: &'a [u8; VARS],
-    scopes: &'a [u8; ROWS],
-    starts: &'a [usize; FUNCTIONS],
-    top: u64,
-    constant: u64,
-    vars: usize,
-    functions: usize,
-    table: &[u64],
-    room: usize,
-) -> Judged
-    ensures { result ≡ judged (record { top = top; constant = constant; vars = vars; sizes = sizes.now; functions = functions; scopes = scopes.now; starts = starts.now }) table.now room }
+impl From<Unfit> for Refusal {
+    ghost from_gives = { λ why r. Err r ≡ refusal_of why };
+
+    fn from(why: Unfit) -> Refusal {
+        refusal(why)
+    }
+}
+
+// `room` is the length of the shortest table that is lent.
+pub fn judge(net: &Network, table: &[u64], room: usize) -> Result<Judged, Unfit>
+    ensures value { outlined result ≡ judged net.now table.now room }
+    ensures network { IfOk result (λ passed. passed.network ≡ net.now) }
 {
-    let in_range = ranges_good(top, constant, vars, functions);
-    if !in_range {
-        return Judged::Refused(Unfit::NoNetwork);
+    if !ranges_good(net) || !sizes_good(net) || !scopes_good(net) {
+        return Err(Unfit::NoNetwork);
     }
-    let sized = sizes_good(sizes, vars);
-    if !sized {
-        return Judged::Refused(Unfit::NoNetwork);
-    }
-    let scoped = scopes_good(scopes, vars, functions);
-    if !scoped {
-        return Judged::Refused(Unfit::NoNetwork);
-    }
-    let many = match stretches(sizes, scopes, starts, vars, functions) {
-        Stretched::EndAt(many) => many,
-        Stretched::Broken => return Judged::Refused(Unfit::NoNetwork),
+    let Some(many) = stretches(net) else {
+        return Err(Unfit::NoNetwork);
     };
-    if ENTRIES < many {
-        return Judged::Refused(Unfit::NoNetwork);
-    }
-    let priced = costs_good(table, top, many);
-    if !priced {
-        return Judged::Refused(Unfit::NoNetwork);
+    if ENTRIES < many || !costs_good(table, net.top, many) {
+        return Err(Unfit::NoNetwork);
     }
     if room < many {
-        return Judged::Refused(Unfit::TooShort);
+        return Err(Unfit::TooShort);
     }
-    Judged::Fit(Outline {
-        top: top,
-        constant: constant,
-        vars: vars,
-        functions: functions,
+    Ok(Judged {
+        network: *net,
+        firsts: unary_starts(&net.sizes, net.vars),
         entries: many,
     })
 }
 
-fn ranges_good(top: u64, constant: u64, vars: usize, functions: usize) -> bool
-    ensures { result ≡ ranges_good top constant vars functions }
+fn ranges_good(net: &Network) -> bool
+    ensures { result ≡ ranges_good net.now.top net.now.constant net.now.vars net.now.functions }
 {
-    if top < 1 {
-        return false;
-    }
-    if COST < top {
-        return false;
-    }
-    if top < constant {
-        return false;
-    }
-    if VARS < vars {
-        return false;
-    }
-    if FUNCTIONS < functions {
-        return false;
+    1 <= net.top
+        && net.top <= COST
+        && net.constant <= net.top
+        && net.vars <= VARS
+        && net.functions <= FUNCTIONS
+}
+
+fn sizes_good(net: &Network) -> bool
+    requires { net.now.vars ≤ vars_most }
+    ensures { result ≡ sizes_good net.now.vars net.now.sizes }
+{
+    for v in 0..net.vars {
+        let size = net.size(v);
+        if size < 1 || SIZE < size {
+            return false;
+        }
     }
     true
 }
 
-fn sizes_good(sizes: &[u8; VARS], vars: usize) -> bool
-    requires { vars ≤ vars_most }
-    ensures { result ≡ sizes_good vars sizes.now }
+fn scopes_good(net: &Network) -> bool
+    requires { net.now.functions ≤ functions_most }
+    ensures { result ≡ scopes_good net.now.vars net.now.functions net.now.scopes }
 {
-    let mut v: usize = 0;
-    while v < vars {
-        let size = byte_at(sizes, v);
-        if size < 1 {
+    for f in 0..net.functions {
+        if !row_good(net, f) {
             return false;
         }
-        if SIZE < size {
-            return false;
-        }
-        v += 1;
     }
     true
 }
 
-fn scopes_good(scopes: &[u8; ROWS], vars: usize, functions: usize) -> bool
-    requires { functions ≤ functions_most }
-    ensures { result ≡ scopes_good vars functions scopes.now }
-{
-    let mut f: usize = 0;
-    while f < functions {
-        let good = row_good(scopes, vars, f);
-        if !good {
-            return false;
-        }
-        f += 1;
-    }
-    true
-}
-
-fn row_good(scopes: &[u8; ROWS], vars: usize, f: usize) -> bool
+fn row_good(net: &Network, f: usize) -> bool
     requires { f < functions_most }
-    ensures { result ≡ row_good vars (in_row scopes.now f) }
+    ensures { result ≡ row_good net.now.vars (in_row net.now.scopes f) }
 {
-    let arity = row_at(scopes, f, 0);
-    let x = row_at(scopes, f, 1);
-    let y = row_at(scopes, f, 2);
-    let z = row_at(scopes, f, 3);
-    if arity == 2 {
-        return two_good(vars, x, y);
+    let arity = row_at(&net.scopes, f, 0);
+    let x = row_at(&net.scopes, f, 1);
+    let y = row_at(&net.scopes, f, 2);
+    let z = row_at(&net.scopes, f, 3);
+    match arity {
+        2 => two_good(net.vars, x, y),
+        3 => three_good(net.vars, x, y, z),
+        _ => false,
     }
-    if arity == 3 {
-        return three_good(vars, x, y, z);
-    }
-    false
 }
 
 fn two_good(vars: usize, x: usize, y: usize) -> bool
     ensures { result ≡ variables_good vars (x ∷ y ∷ []) }
 {
-    if vars <= x {
-        return false;
-    }
-    if vars <= y {
-        return false;
-    }
-    if x == y {
-        return false;
-    }
-    true
+    x < vars && y < vars && x != y
 }
 
 fn three_good(vars: usize, x: usize, y: usize, z: usize) -> bool
     ensures { result ≡ variables_good vars (x ∷ y ∷ z ∷ []) }
 {
-    if vars <= x {
-        return false;
-    }
-    if vars <= y {
-        return false;
-    }
-    if vars <= z {
-        return false;
-    }
-    if x == y {
-        return false;
-    }
-    if x == z {
-        return false;
-    }
-    if y == z {
-        return false;
-    }
-    true
-}
-
-#[derive(Clone, Copy)]
-enum Stretched {
-    EndAt(usize),
-    Broken,
+    two_good(vars, x, y) && two_good(vars, x, z) && y != z
 }
 
 // Each function's stretch begins where the one before it ends: then the end of the last is how many entries there are.
-fn stretches<'a>(
-    sizes: &'a [u8; VARS],
-    scopes: &'a [u8; ROWS],
-    starts: &'a [usize; FUNCTIONS],
-    vars: usize,
-    functions: usize,
-) -> Stretched
-    requires { Scoped vars functions sizes.now scopes.now }
-    ensures { result ≡ stretched vars functions sizes.now scopes.now starts.now }
+fn stretches(net: &Network) -> Option<usize>
+    requires { Scoped net.now.vars net.now.functions net.now.sizes net.now.scopes }
+    ensures { result ≡ stretched net.now.vars net.now.functions net.now.sizes net.now.scopes net.now.starts }
 {
-    let mut at = unary_entries(sizes, vars);
-    let mut f: usize = 0;
-    while f < functions {
-        let start = start_at(starts, f);
-        if start != at {
-            return Stretched::Broken;
+    let mut at = unary_entries(net);
+    for f in 0..net.functions {
+        if net.start(f) != at {
+            return None;
         }
-        at += tuples_of(sizes, scopes, vars, functions, f);
-        f += 1;
+        at += net.tuples(f);
     }
-    Stretched::EndAt(at)
+    Some(at)
 }
 
 // The entries of the unary stretches.
-fn unary_entries(sizes: &[u8; VARS], vars: usize) -> usize
-    requires vars_le_vars_most { vars ≤ vars_most }
-    requires by_index { (v : ℕ) → v < vars → get_or sizes.now v 0 ≤ size_most }
-    ensures { (result ≡ sum_to vars (λ v. get_or sizes.now v 0)) × (result ≤ vars * size_most) }
+fn unary_entries(net: &Network) -> usize
+    requires few { net.now.vars ≤ vars_most }
+    requires small { (v : ℕ) → v < net.now.vars → get_or net.now.sizes v 0 ≤ size_most }
+    ensures { (result ≡ sum_to net.now.vars (λ v. get_or net.now.sizes v 0)) × (result ≤ net.now.vars * size_most) }
 {
-    let mut sum: usize = 0;
-    let mut v: usize = 0;
-    while v < vars {
-        sum += byte_at(sizes, v);
-        v += 1;
+    let mut sum = 0;
+    for v in 0..net.vars {
+        sum += net.size(v);
     }
     sum
 }
 
+// A table shorter than E has so many costs to judge as are there.
 fn costs_good(table: &[u64], top: u64, many: usize) -> bool
     ensures { result ≡ costs_good top many table.now }
 {
-    let mut j: usize = 0;
-    while j < many {
-        if table.len() <= j {
-            return true;
-        }
-        if top < table[j] {
-            return false;
-        }
-        j += 1;
-    }
-    true
+    at_most(top, &table[..many.min(table.len())])
+}
+
+// No cost is above the bound.
+fn at_most(top: u64, costs: &[u64]) -> bool
+    ensures { result ≡ list_all (λ cost. leb cost top) costs.now }
+{
+    costs.iter().all(|cost| *cost <= top)
 }

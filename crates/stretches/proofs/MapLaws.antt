@@ -1,10 +1,6 @@
 -- Loops that go through a list in place, one store a turn. Assumes nothing.
-use Prim.Native.Nat.{ℕ, zero, suc, ◌+◌, ◌≤◌, ◌<◌}
-use mathlib.Core.Path.{◌≡◌, refl, ap}
-use mathlib.Core.List.{List, [], ◌∷◌, map}
+use Rattle.std.proofs.Common.{ℕ, zero, suc, ◌+◌, ◌≤◌, ◌<◌, ◌≡◌, List, [], ◌∷◌, length, get_or, set, map, replicate, refl, ap, add-one}
 use native.Mathlib.Nat.{le_of_suc-le-suc, not-suc-le-zero}
-use native.Mathlib.Numerals.{add-one}
-use lib.ListN.{length, get_or, set, replicate}
 
 -- a list with f applied to its first i elements, each with its place
 unfoldable pub reached : (ℕ → ℕ → ℕ) → ℕ → List ℕ → List ℕ

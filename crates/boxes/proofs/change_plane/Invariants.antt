@@ -1,12 +1,6 @@
-use Prim.Native.Nat.{◌≤◌, ◌-◌}
-use mathlib.Core.List.{[], ◌∷◌}
-use mathlib.Core.Path.{◌≡◌}
-use lib.ListN.{length}
-use Rattle.boxes.specs.Ties.Boxes.{spanned, span_to, cells, box_on, changed}
+use Rattle.std.proofs.Common.{◌≡◌, [], ◌∷◌}
+use Rattle.boxes.specs.Ties.Boxes.{spanned, span_to, cells, box_on, changes}
 use Rattle.boxes.proofs.change_plane.Given as goal
 
 abbrev pub invariant-loop-v : goal.invariant-loop-v
-invariant-loop-v l = (l.x.from ≤ l.v) × (l.v ≤ l.x.to) × (length l.table ≡ length l.initial.table) × (cells l.table ≡ box_on (span_to l.x l.v ∷ spanned l.y ∷ []) l.at (changed l.takes l.top l.amount) (cells l.initial.table))
-
-abbrev pub decreases-loop-v : goal.decreases-loop-v
-decreases-loop-v l = l.x.to - l.v
+invariant-loop-v l = cells l.table ≡ box_on (span_to l.fn.x l.v ∷ spanned l.y ∷ []) l.at (changes l.change) (cells l.initial.table)

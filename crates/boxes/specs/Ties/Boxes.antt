@@ -4,6 +4,7 @@ use Rattle.costs.specs.Cost.{plus, minus}
 use Rattle.costs.specs.Limits.{entries_most}
 use Rattle.boxes.specs.declared.Span.{Span}
 use Rattle.boxes.specs.declared.Block.{Block}
+use Rattle.boxes.specs.declared.Change.{Change}
 use Rattle.boxes.specs.Loops.{least_to}
 use Rattle.boxes.specs.Places.{in_stretch, on}
 
@@ -66,3 +67,7 @@ box_least xs at top f = least_to top (in_box xs) (λ e. f (at + e)) (volume xs)
 -- a cost that takes an amount, or gives it
 abbrev pub changed : Bool → ℕ → ℕ → ℕ → ℕ
 changed takes top m x = cond takes (plus top x m) (minus top x m)
+
+-- as a change says
+abbrev pub changes : Change → ℕ → ℕ
+changes c = changed c.takes c.top c.amount
