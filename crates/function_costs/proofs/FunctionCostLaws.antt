@@ -1,31 +1,26 @@
 -- Which costs are read: arity 0, after the mark, and listed. Assumes nothing.
-use Prim.Native.Nat.{ℕ, ◌≤◌, ◌<◌}
-use mathlib.Core.Path.{◌≡◌, refl}
-use mathlib.Core.Bool.{true, false}
-use mathlib.Core.List.{List, [], ◌∷◌}
-use native.Mathlib.Omega.{arith}
-use lib.ListN.{length}
+use Rattle.std.specs.Prelude.{Option, Some, None}
+use Rattle.std.proofs.Common.{ℕ, ◌≤◌, ◌≡◌, refl, List, [], ◌∷◌, length, arith}
 use Rattle.tokens.specs.Tokens.{Text}
 use Rattle.tokens.specs.Steps.{and_then}
 use Rattle.tokens.specs.Words.{follows}
 use Rattle.tokens.specs.Ties.Outcomes.{follows_is}
-use Rattle.tokens.specs.declared.words.Follows.{Follows}
 use Rattle.stretches.specs.Sizes.{product}
 use Rattle.listed_costs.specs.Listed.{listed}
 use Rattle.function_costs.specs.FunctionCosts.{mark, marked, costs}
 
-pub costs_none : (top : ℕ) (ds : List ℕ) (text : Text) (at : ℕ) → length ds < 1 → costs top ds text at ≡ listed top ds 0 text at
+pub costs_none : (top : ℕ) (ds : List ℕ) (text : Text) (at : ℕ) → length ds ≡ 0 → costs top ds text at ≡ listed top ds 0 text at
 unfolding costs
 costs_none top [] text at h = refl
-costs_none top (d ∷ ds) text at h = absurd (omega arith)
+costs_none top (d ∷ ds) text at h = absurd (omega (arith, h))
 
-module _ (top : ℕ) (text : Text) (at : ℕ) (r : Follows) (e : follows_is r ≡ follows mark text at) where
-  pub costs-marked : (ds : List ℕ) → 1 ≤ length ds → r.found ≡ true → costs top ds text at ≡ marked top ds text r.next
+module _ (top : ℕ) (text : Text) (at : ℕ) (r : Option ℕ) (e : follows_is at r ≡ follows mark text at) where
+  pub costs-marked : (ds : List ℕ) → 1 ≤ length ds → (next : ℕ) → r ≡ Some next → costs top ds text at ≡ marked top ds text next
   unfolding costs and_then
-  costs-marked [] h f = absurd (omega arith)
-  costs-marked (d ∷ ds) h f = rw (← e, f)
+  costs-marked [] h next f = absurd (omega arith)
+  costs-marked (d ∷ ds) h next f = rw (← e, f)
 
-  pub costs-listed : (ds : List ℕ) → 1 ≤ length ds → r.found ≡ false → costs top ds text at ≡ listed top ds (product ds) text r.next
+  pub costs-listed : (ds : List ℕ) → 1 ≤ length ds → r ≡ None → costs top ds text at ≡ listed top ds (product ds) text at
   unfolding costs and_then
   costs-listed [] h f = absurd (omega arith)
   costs-listed (d ∷ ds) h f = rw (← e, f)

@@ -10,7 +10,7 @@ use Rattle.placing.specs.Drafts.{Draft, put}
 -- where the costs were read, they are put where they belong
 abbrev pub placed : Draft → List ℕ → Got (List ℕ) → Got Draft
 placed d xs (got cs next) = got (put d xs cs) next
-placed d xs (refused answer) = refused answer
+placed d xs (refused refusal) = refused refusal
 
 unfoldable pub function : Draft → Reads Draft
 function d = do

@@ -1,214 +1,125 @@
 // The functions of a text, one after the other, each with its scope and its costs.
 #![tactic(auto)]
 
-ghost use Rattle.std.specs.Prelude.{◌≡◌, List, [], ◌∷◌, ℕ, ◌+◌, ◌≤◌, ◌<◌, length, get_or, take};
-ghost use Rattle.costs.specs.Limits.{functions_most, arity_most, entries_most};
+ghost use Rattle.std.specs.Prelude.{◌≡◌, [], ◌∷◌, ◌+◌, ◌≤◌, ◌<◌, length};
+ghost use Rattle.costs.specs.Limits.{functions_most};
 ghost use Rattle.tokens.specs.Tokens.{text_of};
-ghost use Rattle.stretches.specs.Sizes.{product};
-ghost use Rattle.stretches.specs.Ties.Small.{Small};
+ghost use Rattle.tokens.specs.Ties.Outcomes.{pos_is};
 ghost use Rattle.scopes.specs.Scopes.{scope_sizes};
 ghost use Rattle.function_costs.specs.FunctionCosts.{costs};
-ghost use Rattle.placing.specs.Ties.Sheets.{draft_of, Begun};
+ghost use Rattle.placing.specs.Ties.Sheets.{drafted};
 ghost use Rattle.functions.specs.Functions.{placed, function, functions};
-ghost use Rattle.functions.specs.Ties.Steps.{step_is, Told, Counted, CountedIn};
+ghost use Rattle.functions.specs.Ties.Scopes.{Told};
 
-use answers::Answer;
-use costs::limits::{ARITY, FUNCTIONS, ROWS, SIZE};
-use costs::networks::Outline;
+use answers::Refusal;
+use costs::limits::{ARITY, SIZE};
 use function_costs::read_costs;
-use placing::{put_constant, put_function, put_unary};
+use placing::Sheet;
 use scopes::{fill_sizes, read_scope};
-use stretches::{byte_in, product_of};
-use tokens::numbers::{Num, number_in};
-use tokens::words::Pos;
+use stretches::dims::Dims;
+use tokens::numbers::number_in;
 
-// The numbers of the draft, and the position to read on from.
-#[derive(Clone, Copy)]
-pub enum Step {
-    To(Outline, usize),
-    Refused(Answer),
-}
-
-// So many functions.
+// So many functions, and the position to read on from.
+#[tactic(auto, unfolding(crate::specs::Functions::functions, tokens::specs::Steps::and_then))]
 pub fn read_functions(
-    work: &mut [u64],
-    scopes: &mut [u8; ROWS],
-    starts: &mut [usize; FUNCTIONS],
+    draft: &mut Sheet,
     text: &[u8],
     at: usize,
-    sizes: &[u8],
     many: usize,
-    begin: Outline,
-) -> Step
-    requires begun { Begun begin sizes.now }
-    requires many_bound { (begin.functions + many ≤ functions_most) × (length work.old ≡ entries_most) }
-    ensures work_after { step_is result sizes.now scopes.new starts.new work.new
-        ≡ functions many (draft_of begin sizes.now scopes.old starts.old work.old) (text_of text.now) at }
-    ensures counted_in { CountedIn result }
+) -> Result<usize, Refusal>
+    requires { draft.old.network.functions + many ≤ functions_most }
+    ensures { pos_is result (drafted draft.new) ≡ functions many (drafted draft.old) (text_of text.now) at }
 {
-    let mut left = many;
-    let mut o = begin;
     let mut next = at;
-    while 0 < left {
-        left -= 1;
-        match read_function(work, scopes, starts, text, next, sizes, o) {
-            Step::To(after, end) => {
-                o = after;
-                next = end;
-            }
-            Step::Refused(answer) => return Step::Refused(answer),
-        }
+    for _ in 0..many {
+        next = read_function(draft, text, next)?;
     }
-    Step::To(o, next)
+    Ok(next)
 }
 
 // One function.
-fn read_function(
-    work: &mut [u64],
-    scopes: &mut [u8; ROWS],
-    starts: &mut [usize; FUNCTIONS],
-    text: &[u8],
-    at: usize,
-    sizes: &[u8],
-    o: Outline,
-) -> Step
-    requires begun { Begun o sizes.now }
-    requires functions_lt_functions_most { (o.functions < functions_most) × (length work.old ≡ entries_most) }
-    ensures work_after { step_is result sizes.now scopes.new starts.new work.new
-        ≡ function (draft_of o sizes.now scopes.old starts.old work.old) (text_of text.now) at }
-    ensures counted { Counted o result }
+#[tactic(auto, unfolding(crate::specs::Functions::function, tokens::specs::Steps::and_then))]
+fn read_function(draft: &mut Sheet, text: &[u8], at: usize) -> Result<usize, Refusal>
+    requires { draft.old.network.functions < functions_most }
+    ensures { pos_is result (drafted draft.new) ≡ function (drafted draft.old) (text_of text.now) at }
 {
-    let found = match number_in(text, at, 0, ARITY as u64) {
-        Num::Is(x) => x,
-        Num::No(answer) => return Step::Refused(answer),
-    };
+    let found = number_in(text, at, 0, ARITY as u64)?;
     let arity = found.value as usize;
     let mut variables = [0u8; ARITY];
-    match read_scope(
+    let network = &draft.network;
+    let next = read_scope(
         &mut variables,
         text,
         found.next,
-        sizes,
-        o.vars,
-        o.entries,
+        &network.sizes,
+        network.vars,
+        draft.entries,
         arity,
-    ) {
-        Pos::At(next) => read_placed(
-            work, scopes, starts, text, next, sizes, &variables, arity, o,
-        ),
-        Pos::Refused(answer) => Step::Refused(answer),
-    }
+    )?;
+    read_placed(draft, text, next, &variables[..arity])
 }
 
 // The costs of a function whose scope was read, put where they belong.
-fn read_placed(
-    work: &mut [u64],
-    scopes: &mut [u8; ROWS],
-    starts: &mut [usize; FUNCTIONS],
-    text: &[u8],
-    at: usize,
-    sizes: &[u8],
-    variables: &[u8],
-    arity: usize,
-    o: Outline,
-) -> Step
-    requires begun { Begun o sizes.now }
-    requires told { Told o sizes.now arity variables.now }
-    requires functions_lt_functions_most { (o.functions < functions_most) × (length work.old ≡ entries_most) }
-    ensures work_after { step_is result sizes.now scopes.new starts.new work.new
-        ≡ placed (draft_of o sizes.now scopes.old starts.old work.old) (take arity variables.now)
-        (costs o.top (scope_sizes sizes.now (take arity variables.now)) (text_of text.now) at) }
-    ensures counted { Counted o result }
+fn read_placed(draft: &mut Sheet, text: &[u8], at: usize, scope: &[u8]) -> Result<usize, Refusal>
+    requires told { Told draft.old scope.now }
+    requires functions_lt_functions_most { draft.old.network.functions < functions_most }
+    ensures { pos_is result (drafted draft.new)
+        ≡ placed (drafted draft.old) scope.now (costs draft.old.network.top (scope_sizes draft.old.network.sizes scope.now) (text_of text.now) at) }
 {
-    let mut dims = [0u64; ARITY];
-    fill_sizes(&mut dims, variables, sizes, arity);
-    if arity == 0 {
-        return read_constant(text, at, &dims[0..arity], o);
+    match scope {
+        [] => read_constant(draft, text, at),
+        [x] => read_unary(draft, text, at, usize::from(*x)),
+        _ => read_numbered(draft, text, at, scope),
     }
-    if arity == 1 {
-        let x = byte_in(variables, 0) as usize;
-        return read_unary(work, text, at, &dims[0..arity], sizes, x, o);
-    }
-    read_numbered(
-        work,
-        scopes,
-        starts,
-        text,
-        at,
-        &dims[0..arity],
-        variables,
-        arity,
-        o,
-    )
 }
 
 // Arity 0: into the constant.
-fn read_constant(text: &[u8], at: usize, ds: &[u64], o: Outline) -> Step
-    requires { ds.now ≡ [] }
-    ensures work_value { (sizes scopes starts work : List ℕ) → step_is result sizes scopes starts work
-        ≡ placed (draft_of o sizes scopes starts work) [] (costs o.top ds.now (text_of text.now) at) }
-    ensures counted { Counted o result }
+fn read_constant(draft: &mut Sheet, text: &[u8], at: usize) -> Result<usize, Refusal>
+    ensures { pos_is result (drafted draft.new) ≡ placed (drafted draft.old) [] (costs draft.old.network.top [] (text_of text.now) at) }
 {
     let mut cells = [0u64; 1];
-    match read_costs(&mut cells, text, at, ds, o.top) {
-        Pos::At(next) => Step::To(put_constant(o, cells[0]), next),
-        Pos::Refused(answer) => Step::Refused(answer),
-    }
+    let next = read_costs(&mut cells, text, at, Dims { sizes: &[] }, draft.network.top)?;
+    draft.put_constant(cells[0]);
+    Ok(next)
 }
 
 // Arity 1: into the variable's unary costs.
-fn read_unary(
-    work: &mut [u64],
-    text: &[u8],
-    at: usize,
-    ds: &[u64],
-    sizes: &[u8],
-    x: usize,
-    o: Outline,
-) -> Step
-    requires begun { Begun o sizes.now }
-    requires x_lt_vars { (x < o.vars) × (length work.old ≡ entries_most) × (ds.now ≡ get_or sizes.now x 0 ∷ []) }
-    ensures by_index { (scopes starts : List ℕ) → step_is result sizes.now scopes starts work.new
-        ≡ placed (draft_of o sizes.now scopes starts work.old) (x ∷ []) (costs o.top ds.now (text_of text.now) at) }
-    ensures counted { Counted o result }
+fn read_unary(draft: &mut Sheet, text: &[u8], at: usize, x: usize) -> Result<usize, Refusal>
+    requires { x < draft.old.network.vars }
+    ensures { pos_is result (drafted draft.new)
+        ≡ placed (drafted draft.old) (x ∷ []) (costs draft.old.network.top (scope_sizes draft.old.network.sizes (x ∷ [])) (text_of text.now) at) }
 {
-    let many = byte_in(sizes, x) as usize;
+    let size = draft.network.size(x);
     let mut cells = [0u64; SIZE];
-    match read_costs(&mut cells[0..many], text, at, ds, o.top) {
-        Pos::At(next) => {
-            put_unary(work, sizes, x, &cells, o);
-            Step::To(o, next)
-        }
-        Pos::Refused(answer) => Step::Refused(answer),
-    }
+    let cells = &mut cells[..size];
+    let sizes = [size as u64];
+    let next = read_costs(cells, text, at, Dims { sizes: &sizes }, draft.network.top)?;
+    draft.put_unary(x, cells);
+    Ok(next)
 }
 
 // Arity 2 and 3: a stretch of its own, lent to the filler alone.
-fn read_numbered(
-    work: &mut [u64],
-    scopes: &mut [u8; ROWS],
-    starts: &mut [usize; FUNCTIONS],
-    text: &[u8],
-    at: usize,
-    ds: &[u64],
-    variables: &[u8],
-    arity: usize,
-    o: Outline,
-) -> Step
-    requires small { Small ds.now }
-    requires functions_lt_functions_most { (o.functions < functions_most) × (arity ≤ arity_most) × (arity ≤ length variables.now) × (2 ≤ arity) × (length work.old ≡ entries_most) × (o.entries + product ds.now ≤ entries_most) }
-    ensures by_index { (sizes : List ℕ) → step_is result sizes scopes.new starts.new work.new
-        ≡ placed (draft_of o sizes scopes.old starts.old work.old) (take arity variables.now) (costs o.top ds.now (text_of text.now) at) }
-    ensures counted { Counted o result }
+fn read_numbered(draft: &mut Sheet, text: &[u8], at: usize, scope: &[u8]) -> Result<usize, Refusal>
+    requires told { Told draft.old scope.now }
+    requires functions_lt_functions_most { (draft.old.network.functions < functions_most) × (2 ≤ length scope.now) }
+    ensures { pos_is result (drafted draft.new)
+        ≡ placed (drafted draft.old) scope.now (costs draft.old.network.top (scope_sizes draft.old.network.sizes scope.now) (text_of text.now) at) }
 {
-    let many = product_of(ds);
-    let start = o.entries;
+    let mut dims = [0u64; ARITY];
+    fill_sizes(&mut dims, scope, &draft.network.sizes, scope.len());
+    let ds = Dims {
+        sizes: &dims[..scope.len()],
+    };
+    let many = ds.tuples();
+    let start = draft.entries;
     let end = start + many;
-    match read_costs(&mut work[start..end], text, at, ds, o.top) {
-        Pos::At(next) => Step::To(
-            put_function(scopes, starts, variables, arity, many, o),
-            next,
-        ),
-        Pos::Refused(answer) => Step::Refused(answer),
-    }
+    let next = read_costs(
+        &mut draft.table[start..end],
+        text,
+        at,
+        ds,
+        draft.network.top,
+    )?;
+    draft.put_function(scope, many);
+    Ok(next)
 }

@@ -1,37 +1,29 @@
 -- Laws of `domains`, one turn at a time. Assumes nothing.
-use Prim.Native.Nat.{ℕ, zero, suc, ◌+◌, ◌*◌, ◌≤◌, ◌<◌, max}
-use mathlib.Core.Path.{◌≡◌, refl, sym, ap, ◌∙◌}
-use mathlib.Core.List.{List}
+use Rattle.std.specs.Prelude.{Result, Ok, Err}
+use Rattle.std.proofs.Common.{ℕ, zero, suc, ◌+◌, ◌*◌, ◌≤◌, ◌<◌, max, ◌≡◌, refl, sym, ap, ◌∙◌, List, get_or, set, replicate, length-set, get_or-set_same, get_or-set_other, arith}
 use native.Mathlib.Decide.{ℕ_discrete}
-use native.Mathlib.Omega.{arith}
-use lib.ListN.{get_or, set, replicate, length-set}
-use lib.Seq.{get_or-set_same, get_or-set_other}
 use Rattle.costs.specs.Limits.{vars_most, size_most}
 use Rattle.costs.specs.Range.{sum_to}
 use Rattle.costs.proofs.RangeLaws.{sum_to_next, sum_to-same}
-use Rattle.answers.specs.declared.Answer.{Answer}
+use Rattle.answers.specs.declared.Refusal.{Refusal}
 use Rattle.tokens.specs.Tokens.{Text}
 use Rattle.tokens.specs.Steps.{got, refused, and_then, demand}
 use Rattle.tokens.specs.Ties.Outcomes.{num_is}
 use Rattle.tokens.specs.declared.numbers.Seen.{Seen}
-use Rattle.tokens.specs.declared.numbers.Num.{Num}
-use Rattle.tokens.specs.declared.numbers.Num.TheVariants.{Is, No}
 use Rattle.tokens.proofs.StepLaws.{and_then_lem, demanded, same-value}
 use Rattle.tokens.proofs.NumberLaws.{in_range}
 use Rattle.headings.specs.Domains.{Sized, size, domains}
 use Rattle.headings.specs.Ties.Outcomes.{domains_is}
 use Rattle.headings.specs.Ties.Ranges.{Good}
 use Rattle.headings.specs.declared.domains.Unary.{Unary}
-use Rattle.headings.specs.declared.domains.Domains.{Domains}
-use Rattle.headings.specs.declared.domains.Domains.TheVariants as D
 
-module _ (greatest left m v largest entries : ℕ) (sizes : List ℕ) (text : Text) (at : ℕ) (e : left ≡ suc m) (r : Num)
+module _ (greatest left m v largest entries : ℕ) (sizes : List ℕ) (text : Text) (at : ℕ) (e : left ≡ suc m) (r : Result Seen Refusal)
     (h : num_is r ≡ size greatest m largest entries text at) where
-  pub domains_stop : (answer : Answer) → r ≡ No answer → domains greatest left v largest entries sizes text at ≡ refused answer
+  pub domains_stop : (refusal : Refusal) → r ≡ Err refusal → domains greatest left v largest entries sizes text at ≡ refused refusal
   unfolding domains and_then demand
-  domains_stop answer f = rw (e, ← h, f)
+  domains_stop refusal f = rw (e, ← h, f)
 
-  pub domains_more : (d : Seen) (now : ℕ) → r ≡ Is d → now ≡ max largest d.value
+  pub domains_more : (d : Seen) (now : ℕ) → r ≡ Ok d → now ≡ max largest d.value
       → domains greatest left v largest entries sizes text at ≡ domains greatest m (v + 1) now (entries + d.value) (set sizes v d.value) text d.next
   unfolding domains and_then demand
   domains_more d now f n = rw (e, ← h, f, n)
@@ -52,7 +44,7 @@ size-range greatest left largest entries text at d next e =
     let r : d ≡ s.0 = same-value _ _ _ _ q.1 in
     rw r (in_range _ _ _ _ _ _ (sym s.2))
 
-pub size_read : (greatest left largest entries : ℕ) (text : Text) (at : ℕ) (r : Num) → num_is r ≡ size greatest left largest entries text at → (d : Seen) → r ≡ Is d
+pub size_read : (greatest left largest entries : ℕ) (text : Text) (at : ℕ) (r : Result Seen Refusal) → num_is r ≡ size greatest left largest entries text at → (d : Seen) → r ≡ Ok d
     → (1 ≤ d.value) × (d.value ≤ size_most)
 size_read greatest left largest entries text at r h d f =
     let e : got d d.next ≡ size greatest left largest entries text at = rw (← h, f) in
@@ -100,8 +92,8 @@ none_good = record { long = refl; some = λ w l. absurd (omega arith); most = ze
     zeros (suc n) (suc w) = zeros n w
 
 -- all of them
-pub domains_read : (greatest vars : ℕ) (text : Text) (at : ℕ) (r : Domains) (sizes : List ℕ) → domains_is r sizes ≡ domains greatest vars 0 0 0 (replicate vars_most 0) text at
-    → vars ≤ vars_most → (unary : Unary) → r ≡ D.Is unary → Good vars (record { entries = unary.entries; sizes = sizes })
+pub domains_read : (greatest vars : ℕ) (text : Text) (at : ℕ) (r : Result Unary Refusal) (sizes : List ℕ) → domains_is r sizes ≡ domains greatest vars 0 0 0 (replicate vars_most 0) text at
+    → vars ≤ vars_most → (unary : Unary) → r ≡ Ok unary → Good vars (record { entries = unary.entries; sizes = sizes })
 domains_read greatest vars text at r sizes h l unary f =
     let e : got (record { entries = unary.entries; sizes = sizes }) unary.next ≡ domains greatest vars 0 0 0 (replicate vars_most 0) text at = rw (← h, f) in
     let n : 0 + vars ≡ vars = omega arith in

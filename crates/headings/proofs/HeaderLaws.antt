@@ -1,6 +1,5 @@
 -- What is known of a header that was read. Assumes nothing.
-use Prim.Native.Nat.{ℕ}
-use mathlib.Core.Path.{◌≡◌, sym, ap}
+use Rattle.std.proofs.Common.{ℕ, ◌≡◌, sym, ap}
 use Rattle.tokens.specs.Tokens.{Text}
 use Rattle.tokens.specs.Steps.{got}
 use Rattle.tokens.proofs.StepLaws.{and_then_lem, demanded, same-value}

@@ -1,7 +1,7 @@
 -- The domain sizes: "N domain sizes, 1 to 16; the header's greatest size equals the largest of them, or 0 where N is 0".
 use Rattle.std.specs.Prelude.{ℕ, zero, suc, ◌+◌, max, List, leb, eqb, set}
 use Rattle.costs.specs.Limits.{size_most, entries_most}
-use Rattle.answers.specs.declared.Answer.TheVariants.{OutOfRange, Unfitting}
+use Rattle.answers.specs.declared.Refusal.TheVariants.{OutOfRange, Unfitting}
 use Rattle.tokens.specs.Steps.{Reads, ◌>>=◌, ◌>>◌, pure, demand, at_last}
 use Rattle.tokens.specs.Numbers.{number_in}
 use Rattle.tokens.specs.declared.numbers.Seen.{Seen}

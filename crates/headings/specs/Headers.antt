@@ -2,7 +2,7 @@
 -- bytes of a name by request M-101.
 use Rattle.std.specs.Prelude.{eqb}
 use Rattle.costs.specs.Limits.{vars_most, size_most, functions_most, cost_most}
-use Rattle.answers.specs.declared.Answer.TheVariants.{Unfitting}
+use Rattle.answers.specs.declared.Refusal.TheVariants.{Unfitting}
 use Rattle.tokens.specs.Steps.{Reads, ◌>>=◌, ◌>>◌, pure, demand, at_last}
 use Rattle.tokens.specs.Numbers.{number_in}
 use Rattle.tokens.specs.Words.{name}

@@ -1,26 +1,20 @@
 // The domain sizes.
-ghost use Rattle.std.specs.Prelude.{◌≡◌, ◌≤◌, max};
+ghost use Rattle.std.specs.Prelude.{◌≡◌, ◌≤◌};
 ghost use Rattle.costs.specs.Limits.{vars_most, entries_most};
 ghost use Rattle.tokens.specs.Tokens.{text_of};
 ghost use Rattle.tokens.specs.Ties.Outcomes.{num_is};
 ghost use Rattle.headings.specs.Domains.{size, domains};
 ghost use Rattle.headings.specs.Ties.Outcomes.{domains_is};
 
-use answers::Answer;
+use answers::Refusal;
 use costs::limits::{ENTRIES, SIZE, VARS};
-use tokens::numbers::{Num, number_in};
+use tokens::numbers::{Seen, number_in};
 
 // How many entries the unary stretches have, and the position after the sizes.
-#[derive(Clone, Copy)]
+#[derive(Clone, Copy, Debug, PartialEq, Eq)]
 pub struct Unary {
     pub entries: usize,
     pub next: usize,
-}
-
-#[derive(Clone, Copy)]
-pub enum Domains {
-    Is(Unary),
-    No(Answer),
 }
 
 pub fn read_domains(
@@ -29,59 +23,48 @@ pub fn read_domains(
     at: usize,
     vars: usize,
     greatest: u64,
-) -> Domains
+) -> Result<Unary, Refusal>
     requires { vars ≤ vars_most }
     ensures { domains_is result sizes.new ≡ domains greatest vars 0 0 0 sizes.old (text_of text.now) at }
 {
-    let mut v: usize = 0;
-    let mut left = vars;
     let mut largest: u64 = 0;
     let mut entries: u64 = 0;
     let mut next = at;
-    while 0 < left {
-        left -= 1;
-        let d = match read_size(text, next, greatest, left, largest, entries) {
-            Num::Is(d) => d,
-            Num::No(answer) => return Domains::No(answer),
-        };
+    for v in 0..vars {
+        let d = read_size(text, next, greatest, vars - 1 - v, largest, entries)?;
         sizes[v] = d.value as u8;
-        v += 1;
-        largest = larger(largest, d.value);
+        largest = largest.max(d.value);
         entries += d.value;
         next = d.next;
     }
-    Domains::Is(Unary {
+    Ok(Unary {
         entries: entries as usize,
-        next: next,
+        next,
     })
 }
 
 // One size, with so many after it.
-fn read_size(text: &[u8], at: usize, greatest: u64, left: usize, largest: u64, entries: u64) -> Num
+#[tactic(auto, unfolding(crate::specs::Domains::size, tokens::specs::Steps::and_then, tokens::specs::Steps::demand))]
+fn read_size(
+    text: &[u8],
+    at: usize,
+    greatest: u64,
+    left: usize,
+    largest: u64,
+    entries: u64,
+) -> Result<Seen, Refusal>
     requires { entries ≤ entries_most }
     ensures { num_is result ≡ size greatest left largest entries (text_of text.now) at }
 {
-    let d = match number_in(text, at, 1, SIZE as u64) {
-        Num::Is(d) => d,
-        Num::No(answer) => return Num::No(answer),
-    };
+    let d = number_in(text, at, 1, SIZE as u64)?;
     if 0 < left {
-        return Num::Is(d);
+        return Ok(d);
     }
     if (ENTRIES as u64) < entries + d.value {
-        return Num::No(Answer::OutOfRange(d.place));
+        return Err(Refusal::OutOfRange(d.place));
     }
-    if larger(largest, d.value) != greatest {
-        return Num::No(Answer::Unfitting(d.place));
+    if largest.max(d.value) != greatest {
+        return Err(Refusal::Unfitting(d.place));
     }
-    Num::Is(d)
-}
-
-fn larger(a: u64, b: u64) -> u64
-    ensures { result ≡ max a b }
-{
-    if a < b {
-        return b;
-    }
-    a
+    Ok(d)
 }

@@ -1,16 +1,15 @@
 // The header.
-ghost use Rattle.std.specs.Prelude.{◌≡◌, eqb};
-ghost use Rattle.tokens.specs.Steps.{at_last};
+ghost use Rattle.std.specs.Prelude.{◌≡◌};
 ghost use Rattle.tokens.specs.Tokens.{text_of};
 ghost use Rattle.headings.specs.Headers.{header};
 ghost use Rattle.headings.specs.Ties.Outcomes.{header_is};
 
-use answers::Answer;
+use answers::Refusal;
 use costs::limits::{COST, FUNCTIONS, SIZE, VARS};
-use tokens::numbers::{Num, number_in};
-use tokens::words::{Pos, read_name};
+use tokens::numbers::number_in;
+use tokens::words::read_name;
 
-#[derive(Clone, Copy)]
+#[derive(Clone, Copy, Debug, PartialEq, Eq)]
 pub struct Head {
     // N
     pub vars: usize,
@@ -23,54 +22,24 @@ pub struct Head {
 }
 
 // The header, and the position after it.
-#[derive(Drop)]
-pub enum Header {
-    Is(Head, usize),
-    No(Answer),
-}
-
-pub fn read_header(text: &[u8], at: usize) -> Header
+#[tactic(auto, unfolding(crate::specs::Headers::header, tokens::specs::Steps::and_then, tokens::specs::Steps::demand))]
+pub fn read_header(text: &[u8], at: usize) -> Result<(Head, usize), Refusal>
     ensures { header_is result ≡ header (text_of text.now) at }
 {
-    let after_name = match read_name(text, at) {
-        Pos::At(next) => next,
-        Pos::Refused(answer) => return Header::No(answer),
-    };
-    let vars = match number_in(text, after_name, 0, VARS as u64) {
-        Num::Is(x) => x,
-        Num::No(answer) => return Header::No(answer),
-    };
-    let greatest = match number_in(text, vars.next, 0, SIZE as u64) {
-        Num::Is(x) => x,
-        Num::No(answer) => return Header::No(answer),
-    };
-    let fits = greatest_fits(vars.value, greatest.value);
-    if !fits {
-        return Header::No(Answer::Unfitting(greatest.place));
+    let after_name = read_name(text, at)?;
+    let vars = number_in(text, after_name, 0, VARS as u64)?;
+    let greatest = number_in(text, vars.next, 0, SIZE as u64)?;
+    // where there is no variable, the greatest size is 0
+    if vars.value == 0 && greatest.value != 0 {
+        return Err(Refusal::Unfitting(greatest.place));
     }
-    let functions = match number_in(text, greatest.next, 0, FUNCTIONS as u64) {
-        Num::Is(x) => x,
-        Num::No(answer) => return Header::No(answer),
-    };
-    let top = match number_in(text, functions.next, 1, COST) {
-        Num::Is(x) => x,
-        Num::No(answer) => return Header::No(answer),
-    };
+    let functions = number_in(text, greatest.next, 0, FUNCTIONS as u64)?;
+    let top = number_in(text, functions.next, 1, COST)?;
     let head = Head {
         vars: vars.value as usize,
         greatest: greatest.value,
         functions: functions.value as usize,
         top: top.value,
     };
-    Header::Is(head, top.next)
-}
-
-// Where there is no variable, the greatest size is 0.
-fn greatest_fits(vars: u64, greatest: u64) -> bool
-    ensures { result ≡ at_last vars (eqb greatest 0) }
-{
-    if 0 < vars {
-        return true;
-    }
-    greatest == 0
+    Ok((head, top.next))
 }

@@ -1,7 +1,7 @@
 -- Listed costs: "then the default cost and the number of listed tuples, then each tuple: its values in scope order and its cost. An unlisted
 -- tuple has the default."
 use Rattle.std.specs.Prelude.{ℕ, zero, suc, ◌+◌, ◌*◌, min, cond, List, [], ◌∷◌, map, ltb, eqb, length, get_or, set, replicate}
-use Rattle.answers.specs.declared.Answer.TheVariants.{Unfitting, ListedTwice}
+use Rattle.answers.specs.declared.Refusal.TheVariants.{Unfitting, ListedTwice}
 use Rattle.tokens.specs.Steps.{Reads, ◌>>=◌, ◌>>◌, pure, demand, at_last}
 use Rattle.tokens.specs.Numbers.{any_number, number_in}
 use Rattle.tokens.specs.declared.numbers.Seen.{Seen}

@@ -1,13 +1,8 @@
--- A stretch of a table that a filler has written, seen in the table's first E entries. Assumes nothing.
-use Prim.Native.Nat.{ℕ, zero, suc, ◌+◌, ◌≤◌}
-use mathlib.Core.Path.{◌≡◌, refl, sym, ap, ◌∙◌, fun_ext}
-use mathlib.Core.List.{List, [], ◌∷◌, ◌++◌}
-use native.Mathlib.Nat.{suc-add, add_assoc, le_of_suc-le-suc, not-suc-le-zero}
-use native.Mathlib.Omega.{arith}
-use lib.ListN.{length, get_or, take, drop, length-drop}
-use lib.Seq.{take-append-add, drop-drop, take-take, take-nil, length-take-le, get_or-drop}
+-- A stretch of a table that costs are added to, seen in the table's first E entries. Assumes nothing.
+use Rattle.std.proofs.Common.{arith, ℕ, zero, suc, ◌≡◌, refl, sym, ap, ◌∙◌, ◌+◌, ◌≤◌, ◌<◌, List, [], ◌∷◌, ◌++◌, length, get_or, take, drop, set, add_assoc, length-drop, drop-drop, take-take, length-take-le, get_or-drop, add-one, one-add, append-nil, take_all, drop_of_length-le, le_refl}
+use Rattle.std.proofs.lemmas.List.{drop-take}
+use lib.Seq.{take-append-add}
 use Rattle.costs.specs.Cost.{plus}
-use Rattle.stretches.proofs.MapLaws.{reached}
 use Rattle.placing.specs.Drafts.{sums, added_at}
 
 pub sums-length : (top : ℕ) (xs cs : List ℕ) → length (sums top xs cs) ≡ length xs
@@ -21,11 +16,6 @@ unfolding sums
 sums_front top [] cs rest h = refl
 sums_front top (x ∷ xs) [] rest h = absurd (omega arith)
 sums_front top (x ∷ xs) (c ∷ cs) rest h = ap (λ (l : List ℕ). plus top x c ∷ l) (sums_front top xs cs rest (omega arith))
-
-pub drop-take : (a b : ℕ) (l : List ℕ) → drop a (take (a + b) l) ≡ take b (drop a l)
-drop-take zero b l = let e : 0 + b ≡ b = omega arith in rw e
-drop-take (suc a) b [] = rw suc-add (sym (take-nil b))
-drop-take (suc a) b (x ∷ l) = rw suc-add (drop-take a b l)
 
 -- a front, a stretch and part of what follows
 front : (s m n : ℕ) (p zs r : List ℕ) → length p ≡ s → length zs ≡ m → take (s + (m + n)) (p ++ (zs ++ r)) ≡ p ++ (zs ++ take n r)
@@ -45,42 +35,29 @@ added top start many n k all w cs out e f h o =
     rw (g, d, t, o, f, e) (front start many n (take start w) (sums top (take many (drop start w)) cs) (drop many (drop start w)) (length-take-le start w (omega arith)) l)
 
 -- which is the stretch that it should be
-pub stretch_added_lem : (top start many from size n k all : ℕ) (w cs out : List ℕ) → start ≡ from → many ≡ size → all ≡ start + (many + n) → k ≡ many → all ≤ length w
+pub stretch_added : (top start many from size n k all : ℕ) (w cs out : List ℕ) → start ≡ from → many ≡ size → all ≡ start + (many + n) → k ≡ many → all ≤ length w
     → out ≡ take start w ++ (sums top (take k (drop start w)) cs ++ drop k (drop start w)) → take all out ≡ added_at top from size cs (take all w)
-stretch_added_lem top start many from size n k all w cs out p q e f h o = rw (← p, ← q) (added top start many n k all w cs out e f h o)
+stretch_added top start many from size n k all w cs out p q e f h o = rw (← p, ← q) (added top start many n k all w cs out e f h o)
 
--- a stretch of its own, after all that was there
-pub stretch_filled : (start many k : ℕ) (w ys out : List ℕ) → length ys ≡ many → start ≤ length w
-    → out ≡ take start w ++ (ys ++ drop k (drop start w)) → take (start + many) out ≡ take start w ++ ys
-stretch_filled start many k w ys out l h o =
-    let s : length (take start w) ≡ start = length-take-le start w h in
-    let e : start + many ≡ start + (many + 0) = omega arith in
-    rw (o, e, front start many 0 (take start w) ys (drop k (drop start w)) s l) (none (take start w) ys)
-  where
-    none : (p ys : List ℕ) → p ++ (ys ++ []) ≡ p ++ ys
-    none p ys = rw (mathlib.Core.List.append-nil ys)
+-- costs added in place, one store a turn: after i of them
+abbrev pub summed : ℕ → ℕ → List ℕ → List ℕ → List ℕ
+summed top i l cs = sums top (take i l) cs ++ drop i l
 
--- costs added in place, one store a turn
-one_plus : (j : ℕ) → 1 + j ≡ suc j
-one_plus j = omega arith
+more : (top i : ℕ) (l cs : List ℕ) → i < length l → set (summed top i l cs) i (plus top (get_or (summed top i l cs) i 0) (get_or cs i 0)) ≡ summed top (suc i) l cs
+unfolding sums
+more top zero [] cs h = absurd (omega arith)
+more top zero (x ∷ l) cs h = refl
+more top (suc i) [] cs h = absurd (omega arith)
+more top (suc i) (x ∷ l) cs h =
+    let e : get_or (drop 1 cs) i 0 ≡ get_or cs (suc i) 0 = get_or-drop 1 cs i 0 ∙ rw one-add in
+    ap (λ (m : List ℕ). plus top x (get_or cs 0 0) ∷ m) (rw e at (more top i l (drop 1 cs) (omega arith)))
 
--- every element with the cost at its place
-costed : ℕ → List ℕ → ℕ → ℕ → ℕ
-costed top cs j x = plus top x (get_or cs j 0)
+pub summed_more : (top i : ℕ) (l cs c : List ℕ) (v : ℕ) → c ≡ summed top i l cs → v ≡ plus top (get_or c i 0) (get_or cs i 0) → i < length l → set c i v ≡ summed top (i + 1) l cs
+summed_more top i l cs c v e f h = rw (f, e, add-one) (more top i l cs h)
 
-later : (top : ℕ) (cs : List ℕ) → ◌≡◌ {A = ℕ → ℕ → ℕ} (λ j. costed top cs (suc j)) (costed top (drop 1 cs))
-unfolding costed
-later top cs = fun_ext (λ j. fun_ext (λ x. rw (get_or-drop 1 cs j 0, one_plus j)))
+pub summed_all : (top : ℕ) (l cs : List ℕ) → summed top (length l) l cs ≡ sums top l cs
+summed_all top l cs = rw (take_all (length l) l (le_refl _), drop_of_length-le l (le_refl _), append-nil (sums top l cs))
 
-all_costed : (top i : ℕ) (l cs : List ℕ) → length l ≤ i → reached (costed top cs) i l ≡ sums top l cs
-unfolding reached sums costed
-all_costed top zero [] cs h = refl
-all_costed top zero (x ∷ l) cs h = absurd (not-suc-le-zero h)
-all_costed top (suc i) [] cs h = refl
-all_costed top (suc i) (x ∷ l) cs h =
-    ap (λ (g : ℕ → ℕ → ℕ). plus top x (get_or cs 0 0) ∷ reached g i l) (later top cs)
-    ∙ ap (λ (m : List ℕ). plus top x (get_or cs 0 0) ∷ m) (all_costed top i l (drop 1 cs) (le_of_suc-le-suc h))
-
-pub reached_sums : (top i : ℕ) (l cs : List ℕ) → length l ≤ i → reached (λ j x. plus top x (get_or cs j 0)) i l ≡ sums top l cs
-unfolding costed
-reached_sums top i l cs h = all_costed top i l cs h
+pub summed_none : (top : ℕ) (l cs : List ℕ) → l ≡ summed top 0 l cs
+unfolding sums
+summed_none top l cs = refl

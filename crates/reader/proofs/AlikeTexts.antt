@@ -1,13 +1,8 @@
 -- Reading looks at nothing but the tokens of the text, from the first on, and their places: two texts of one length that have the same tokens at the same places
 -- read alike; and what the tokens are refused with is 2 to 6. Assumes nothing.
-use Prim.Native.Nat.{ℕ, zero, suc}
-use mathlib.Core.Path.{◌≡◌, refl}
-use mathlib.Core.Bool.{Bool, true, false, cond}
-use mathlib.Core.List.{List, [], ◌∷◌}
-use native.Mathlib.Omega.{arith}
-use lib.ListN.{length, replicate}
+use Rattle.std.proofs.Common.{ℕ, zero, suc, ◌≡◌, refl, Bool, true, false, cond, List, [], ◌∷◌, arith, length, replicate}
 use Rattle.costs.specs.Limits.{vars_most, size_most, functions_most, cost_most, arity_most}
-use Rattle.answers.specs.declared.Answer.{Answer}
+use Rattle.answers.specs.declared.Refusal.{Refusal}
 use Rattle.tokens.specs.Tokens.{Text, text_of}
 use Rattle.tokens.specs.Runs.{Reached, begin, after}
 use Rattle.tokens.specs.Steps.{Got, got, refused}
@@ -138,5 +133,5 @@ unfolding reading
 alike s t room l e = rw (l, (network_alike (record { onward = goes_on s; meets = e }) 0 begin).same)
 
 -- and what the tokens are refused with is 2 to 6
-pub network-refuses : (text : Text) (at : ℕ) (a : Answer) → network text at ≡ refused a → OfTokens a
+pub network-refuses : (text : Text) (at : ℕ) (a : Refusal) → network text at ≡ refused a → OfTokens a
 network-refuses text at = (network_alike {R = λ at. Unit {0}} (record { onward = λ at u. tt; meets = λ at u. refl }) at tt).refuses

@@ -1,13 +1,6 @@
 -- The costs that are read: as many as a function has tuples, each at most k. Assumes nothing.
-use Prim.Native.Nat.{ℕ, zero, suc, ◌≤◌, min}
-use mathlib.Core.Path.{◌≡◌, refl, sym, ap, ◌∙◌}
-use mathlib.Core.Bool.{Bool, true, false, cond}
-use mathlib.Core.Logic.{◌⊎◌, inl, inr}
-use mathlib.Core.List.{List, [], ◌∷◌, map}
-use native.Mathlib.Omega.{arith}
-use lib.Dec.{eqb}
-use lib.ListN.{length, take, drop, set, replicate, length-append, length-set, length-replicate}
-use borrow.Author.Tests.{eq-eqb}
+use Rattle.std.proofs.Common.{ℕ, zero, suc, ◌≤◌, min, ◌≡◌, refl, sym, ap, ◌∙◌, Bool, true, false, cond, ◌⊎◌, inl, inr, List, [], ◌∷◌, map, arith, eqb, length, take, drop, set, replicate, length-append, length-set, eq-eqb}
+use lib.ListN.{length-replicate}
 use Rattle.costs.specs.Net.{All}
 use Rattle.costs.proofs.NetLaws.{All-append}
 use Rattle.tokens.specs.Tokens.{Text}

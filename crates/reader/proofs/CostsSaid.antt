@@ -1,14 +1,6 @@
 -- The costs that are read are what the text says of a function's tuples, each held at most k. Assumes nothing.
-use Prim.Native.Nat.{ℕ, zero, suc, ◌≤◌, ◌<◌, min}
-use mathlib.Core.Path.{◌≡◌, refl, sym, ap, ◌∙◌}
-use mathlib.Core.Bool.{Bool, true, false, cond}
-use mathlib.Core.Logic.{◌≢◌}
-use mathlib.Core.List.{List, [], ◌∷◌, map}
-use native.Mathlib.Omega.{arith}
-use lib.Dec.{T}
-use lib.ListN.{length, get_or, set, replicate, length-set, length-replicate}
-use lib.Seq.{get_or-set_same, get_or-set_other}
-use borrow.Author.Tests.{eq-eqb, ne_eqb}
+use Rattle.std.proofs.Common.{ℕ, zero, suc, ◌≤◌, ◌<◌, min, ◌≡◌, refl, sym, ap, ◌∙◌, Bool, true, false, cond, ◌≢◌, List, [], ◌∷◌, map, arith, T, length, get_or, set, replicate, length-set, get_or-set_same, get_or-set_other, eq-eqb, ne_eqb}
+use lib.ListN.{length-replicate}
 use Rattle.costs.specs.Limits.{cost_most}
 use Rattle.costs.proofs.ListLaws.{list_at}
 use Rattle.tokens.specs.Tokens.{Text}

@@ -1,10 +1,6 @@
 -- The public call `read` and the name of its text. Assumes nothing.
-use Prim.Native.Nat.{ℕ, ◌≤◌}
-use mathlib.Core.Path.{◌≡◌}
-use mathlib.Core.List.{List}
-use lib.ListN.{length}
-use borrow.Author.Tests.{le-leb}
-use Rattle.answers.specs.declared.Answer.TheVariants.{BadToken}
+use Rattle.std.proofs.Common.{ℕ, ◌≤◌, ◌≡◌, List, length, le-leb}
+use Rattle.answers.specs.declared.Refusal.TheVariants.{BadToken}
 use Rattle.costs.proofs.TestLaws.{is_true, is_false}
 use Rattle.tokens.specs.Tokens.{text_of}
 use Rattle.tokens.specs.Steps.{got, refused, and_then}

@@ -1,15 +1,7 @@
 -- What was read is a network: refusal 8 never follows a successful read. Assumes nothing.
-use Prim.Native.Nat.{ℕ, zero, suc, ◌+◌, ◌-◌, ◌*◌, ◌≤◌, ◌<◌}
-use mathlib.Core.Path.{◌≡◌, refl, sym, ap, ◌∙◌}
-use mathlib.Core.Bool.{Bool, true, false, cond}
-use mathlib.Core.Logic.{◌≢◌}
-use mathlib.Core.List.{List, [], ◌∷◌, ◌++◌}
-use native.Mathlib.Nat.{mul-one}
-use native.Mathlib.Omega.{arith}
+use Rattle.std.proofs.Common.{ℕ, zero, suc, ◌+◌, ◌-◌, ◌*◌, ◌≤◌, ◌<◌, ◌≡◌, refl, sym, ap, ◌∙◌, Bool, true, false, cond, ◌≢◌, List, [], ◌∷◌, ◌++◌, mul-one, arith, T, ltb, lt→ltb, length, get_or, take, drop, set, replicate, length-append, length-set, length-take, length-drop, get_or-set_same, get_or-set_other}
 use native.Mathlib.Decide.{ℕ_discrete, dec_lt}
-use lib.Dec.{T, ltb, lt→ltb}
-use lib.ListN.{length, get_or, take, drop, set, replicate, length-append, length-set, length-take, length-drop, length-replicate, get_or-append}
-use lib.Seq.{get_or-set_same, get_or-set_other}
+use lib.ListN.{length-replicate, get_or-append}
 use Rattle.costs.specs.Limits.{vars_most, arity_most, row_places, functions_most, entries_most}
 use Rattle.costs.specs.Net.{All, tuples, start}
 use Rattle.costs.specs.Networks.{in_row, scope_in, stands}

@@ -1,14 +1,7 @@
 -- One layout: the entry that a listed tuple is put at, the entry whose values a soft sum adds up and the entry that a plan touches are the same,
 -- "the last scope variable changing fastest". Assumes nothing.
-use Prim.Native.Nat.{ℕ, zero, suc, ◌+◌, ◌*◌, ◌≤◌, ◌<◌}
-use mathlib.Core.Path.{◌≡◌, refl, sym, ap, ◌∙◌}
-use mathlib.Core.Bool.{Bool, true, ◌||◌}
-use mathlib.Core.List.{List, [], ◌∷◌, map}
-use native.Mathlib.Nat.{mul_assoc}
-use native.Mathlib.Omega.{arith}
+use Rattle.std.proofs.Common.{ℕ, zero, suc, ◌+◌, ◌*◌, ◌≤◌, ◌<◌, ◌≡◌, refl, sym, ap, ◌∙◌, Bool, true, ◌||◌, List, [], ◌∷◌, map, mul_assoc, arith, T, ltb, eqb, length, get_or}
 use lib.Arith.{digits_lt, digits_div, digits_mod}
-use lib.Dec.{T, ltb, eqb}
-use lib.ListN.{length, get_or}
 use Rattle.costs.specs.Net.{tuples, entry}
 use Rattle.costs.proofs.TestLaws.{so, by_ltb, by_eqb}
 use Rattle.tokens.specs.Tokens.{Text}

@@ -1,12 +1,7 @@
 -- After a successful read the price of a plan is the capped sum of what the text says of it, function by function. Assumes nothing.
-use Prim.Native.Nat.{ℕ, zero, suc, ◌+◌, ◌-◌, ◌≤◌, ◌<◌, min}
-use mathlib.Core.Path.{◌≡◌, refl, sym, ap, ◌∙◌, subst}
-use mathlib.Core.Logic.{◌≢◌, ◌⊎◌, inl, inr, ⊎_elim}
-use mathlib.Core.List.{List, [], ◌∷◌, ◌++◌, map, append_assoc, append-nil}
-use native.Mathlib.Omega.{arith}
+use Rattle.std.proofs.Common.{ℕ, zero, suc, ◌+◌, ◌-◌, ◌≤◌, ◌<◌, min, ◌≡◌, refl, sym, ap, ◌∙◌, subst, ◌≢◌, ◌⊎◌, inl, inr, ⊎_elim, List, [], ◌∷◌, ◌++◌, map, append_assoc, append-nil, arith, length, get_or, take, drop, set, replicate, length-set, length-take, length-drop, get_or-set_same, get_or-set_other, get_or-append-add, get_or-take, get_or-drop}
 use native.Mathlib.Decide.{dec_lt}
-use lib.ListN.{length, get_or, take, drop, set, replicate, length-set, length-take, length-drop, length-map, length-replicate, get_or-append}
-use lib.Seq.{get_or-set_same, get_or-set_other, get_or-append-add, get_or-take, get_or-drop}
+use lib.ListN.{length-map, length-replicate, get_or-append}
 use Rattle.costs.specs.Limits.{vars_most, size_most, arity_most, functions_most}
 use Rattle.costs.specs.Cost.{plus}
 use Rattle.costs.specs.Range.{sum_to}

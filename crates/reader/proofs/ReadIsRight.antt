@@ -1,16 +1,9 @@
 -- The public call `read`: what stands after it where it answers Done, and when it answers 1 and 7. Assumes nothing.
-use Prim.Native.Nat.{ℕ, ◌+◌, ◌-◌, ◌≤◌, ◌<◌}
-use mathlib.Core.Path.{◌≡◌, refl, sym, ap, ◌∙◌}
-use mathlib.Core.Bool.{Bool, true, false, cond}
-use mathlib.Core.List.{List, [], ◌++◌, append-nil}
-use native.Mathlib.Omega.{arith}
-use lib.Dec.{leb}
-use lib.ListN.{length, get_or, drop, length-append, length-drop}
-use lib.Seq.{get_or-append-add, get_or-drop}
-use borrow.Author.Tests.{leb-true, leb-false, le-leb, lt-leb}
-use Rattle.answers.specs.declared.Answer.{Answer}
-use Rattle.answers.specs.declared.Answer.TheVariants.{Done, LongText, ShortTable}
-use Rattle.answers.specs.Answers.{number_of}
+use Rattle.std.proofs.Common.{arith, ℕ, ◌+◌, ◌-◌, ◌≤◌, ◌<◌, ◌≡◌, refl, sym, ap, ◌∙◌, Bool, true, false, cond, leb, List, [], ◌++◌, append-nil, length, get_or, drop, Err, length-append, length-drop, get_or-append-add, get_or-drop, leb-true, leb-false, le-leb}
+use Rattle.std.proofs.lemmas.Bool.{lt-leb}
+use Rattle.answers.specs.Answers.{Done, number_of, refusal_number}
+use Rattle.answers.specs.declared.Refusal.{Refusal}
+use Rattle.answers.specs.declared.Refusal.TheVariants.{LongText, ShortTable}
 use Rattle.costs.specs.Limits.{entries_most}
 use Rattle.costs.specs.Net.{entries}
 use Rattle.costs.specs.Networks.{stands}
@@ -48,7 +41,7 @@ reading_ends text room = whole (leb (length text) text_most) refl
     whole false e = one (leb-false (length text) text_most e) refl
 
 -- 1 exactly where the text is over 65,536 bytes
-pub one_long : (text : List ℕ) (room : ℕ) → (answered (reading text room)).answer ≡ LongText → text_most < length text
+pub one_long : (text : List ℕ) (room : ℕ) → (answered (reading text room)).answer ≡ Err LongText → text_most < length text
 one_long text room e = go (reading_ends text room)
   where
     go : Ended text room (reading text room) → text_most < length text
@@ -57,12 +50,12 @@ one_long text room e = go (reading_ends text room)
     go (seven d h l q) = absurd (omega (arith, ap (λ (g : Got Draft). number_of (answered g).answer) q, ap number_of e))
     go (done d h l q) = absurd (omega (arith, ap (λ (g : Got Draft). number_of (answered g).answer) q, ap number_of e))
 
-pub long_one : (text : List ℕ) (room : ℕ) → text_most < length text → (answered (reading text room)).answer ≡ LongText
+pub long_one : (text : List ℕ) (room : ℕ) → text_most < length text → (answered (reading text room)).answer ≡ Err LongText
 unfolding reading
 long_one text room l = rw (lt-leb (length text) text_most l)
 
 -- 7 exactly where nothing else refuses the text and the lent table is shorter than the network's E
-pub seven_short : (text : List ℕ) (room : ℕ) → (answered (reading text room)).answer ≡ ShortTable → (d : Draft) × Readable text d × (room < entries (stands d.net))
+pub seven_short : (text : List ℕ) (room : ℕ) → (answered (reading text room)).answer ≡ Err ShortTable → (d : Draft) × Readable text d × (room < entries (stands d.net))
 seven_short text room e = go (reading_ends text room)
   where
     go : Ended text room (reading text room) → (d : Draft) × Readable text d × (room < entries (stands d.net))
@@ -71,7 +64,7 @@ seven_short text room e = go (reading_ends text room)
     go (seven d h l q) = (d, h, l)
     go (done d h l q) = absurd (omega (arith, ap (λ (g : Got Draft). number_of (answered g).answer) q, ap number_of e))
 
-pub short_seven : (text : List ℕ) (room : ℕ) (d : Draft) → Readable text d → room < entries (stands d.net) → (answered (reading text room)).answer ≡ ShortTable
+pub short_seven : (text : List ℕ) (room : ℕ) (d : Draft) → Readable text d → room < entries (stands d.net) → (answered (reading text room)).answer ≡ Err ShortTable
 unfolding reading
 short_seven text room d h l = rw (le-leb (length text) text_most h.short, h.reads, lt-leb (length d.table) room (omega (arith, draft_entries text d h)))
 
@@ -102,7 +95,7 @@ draft_right text before d h l =
 reading_done : (text : List ℕ) (room : ℕ) (d : Draft) (next : ℕ) → reading text room ≡ got d next → Readable text d × (entries (stands d.net) ≤ room)
 reading_done text room d next e = go (reading_ends text room)
   where
-    refusal : (a : Answer) → reading text room ≡ refused a → ⊥
+    refusal : (a : Refusal) → reading text room ≡ refused a → ⊥
     refusal a q = let f = sym e ∙ q in let z : ◌≡◌ {A = ℕ} 0 1 = cc in omega arith
 
     go : Ended text room (reading text room) → Readable text d × (entries (stands d.net) ≤ room)
@@ -116,13 +109,13 @@ pub read_network : (text before : List ℕ) (d : Draft) (next : ℕ) → reading
 read_network text before d next e = let h = reading_done text (length before) d next e in (h.0, draft_right text before d h.0 h.1)
 
 -- 7 is not given where the lent table holds every network's entries
-pub read_refuses : (text : List ℕ) (room : ℕ) (a : Answer) → entries_most ≤ room → reading text room ≡ refused a → (1 ≤ number_of a) × (number_of a ≤ 6)
+pub read_refuses : (text : List ℕ) (room : ℕ) (a : Refusal) → entries_most ≤ room → reading text room ≡ refused a → (1 ≤ refusal_number a) × (refusal_number a ≤ 6)
 read_refuses text room a enough e = go (reading_ends text room)
   where
-    number : (b : Answer) → reading text room ≡ refused b → number_of a ≡ number_of b
+    number : (b : Refusal) → reading text room ≡ refused b → refusal_number a ≡ refusal_number b
     number b q = ap (λ (g : Got Draft). number_of (answered g).answer) (sym e ∙ q)
 
-    go : Ended text room (reading text room) → (1 ≤ number_of a) × (number_of a ≤ 6)
+    go : Ended text room (reading text room) → (1 ≤ refusal_number a) × (refusal_number a ≤ 6)
     go (one l q) = (omega (arith, number LongText q), omega (arith, number LongText q))
     go (token l b h m n q) = (omega (arith, m, number b q), omega (arith, n, number b q))
     go (seven d h l q) = absurd (omega (arith, l, enough, (network_fine (text_of text) 0 d h.next (sym h.reads)).few, draft_entries text d h))

@@ -1,6 +1,6 @@
 -- Networks A, B and C of document 01, "Reckoned by hand", and four more texts, read by the definitions.
 use Rattle.std.specs.Prelude.{ℕ, ◌≡◌, refl, List, [], ◌∷◌, map, take}
-use Rattle.answers.specs.Answers.{number_of, place_of}
+use Rattle.answers.specs.Answers.{refusal_number, refusal_place}
 use Rattle.tokens.specs.Tokens.{white, dark, lead, past, token_at, token_bytes, text_of}
 use Rattle.tokens.specs.Steps.{Got, got, refused, and_then, demand}
 use Rattle.tokens.specs.Numbers.{digits, value_of, any_number, number_in}
@@ -25,7 +25,7 @@ data Look : Type 0 where
   refusal : ℕ → ℕ → Look
 
 abbrev look : Got Draft → Look
-look (refused answer) = refusal (number_of answer) (place_of answer)
+look (refused r) = refusal (refusal_number r) (refusal_place r)
 look (got d next) =
     read (d.net.top ∷ d.net.constant ∷ d.net.vars ∷ d.net.functions ∷ []) (take 3 d.net.sizes) (take 8 d.net.scopes) (take 2 d.net.starts) d.table
 
@@ -102,7 +102,7 @@ examples = (refl, (refl, (refl, (refl, (refl, (refl, (refl, tt)))))))
 -- the prices of plans as a text says them; none where it is refused
 abbrev prices_of : Got SaidNetwork → List (List ℕ) → List ℕ
 prices_of (got n next) plans = map (λ q. price_said n (value_in q)) plans
-prices_of (refused answer) plans = []
+prices_of (refused r) plans = []
 
 -- network A: "000 6; 001 6; 010 5; 011 1; 100 4; 101 4; 110 10 (13 capped); 111 9"
 prices_of_a :

@@ -1,8 +1,8 @@
 -- What stands after a successful read, and how a read may end.
 use Rattle.std.specs.Prelude.{ℕ, ◌≤◌, ◌<◌, ◌≡◌, List, length, get_or}
-use Rattle.answers.specs.declared.Answer.{Answer}
-use Rattle.answers.specs.declared.Answer.TheVariants.{LongText, ShortTable}
-use Rattle.answers.specs.Answers.{number_of}
+use Rattle.answers.specs.Answers.{refusal_number}
+use Rattle.answers.specs.declared.Refusal.{Refusal}
+use Rattle.answers.specs.declared.Refusal.TheVariants.{LongText, ShortTable}
 use Rattle.costs.specs.declared.networks.Network.{Network}
 use Rattle.costs.specs.Net.{entries}
 use Rattle.costs.specs.Networks.{stands}
@@ -35,7 +35,7 @@ pub data Ended (text : List ℕ) (room : ℕ) (g : Got Draft) : Type 0 where
   -- "text over 65,536 bytes"
   one : text_most < length text → g ≡ refused LongText → Ended text room g
   -- a token: 2 to 6
-  token : length text ≤ text_most → (a : Answer) → network (text_of text) 0 ≡ refused a → 2 ≤ number_of a → number_of a ≤ 6 → g ≡ refused a → Ended text room g
+  token : length text ≤ text_most → (a : Refusal) → network (text_of text) 0 ≡ refused a → 2 ≤ refusal_number a → refusal_number a ≤ 6 → g ≡ refused a → Ended text room g
   -- "a lent table shorter than E"
   seven : (d : Draft) → Readable text d → room < entries (stands d.net) → g ≡ refused ShortTable → Ended text room g
   done : (d : Draft) (s : Readable text d) → entries (stands d.net) ≤ room → g ≡ got d s.next → Ended text room g

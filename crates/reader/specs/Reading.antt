@@ -1,8 +1,9 @@
 -- The whole text: "1 first; then the first offending token, lowest number first; 7 last".
-use Rattle.std.specs.Prelude.{ℕ, ◌*◌, cond, List, ◌++◌, leb, length, drop, replicate}
+use Rattle.std.specs.Prelude.{ℕ, Err, ◌*◌, cond, List, ◌++◌, leb, length, drop, replicate}
 use Rattle.costs.specs.Limits.{vars_most, row_places, functions_most}
 use Rattle.costs.specs.declared.networks.Network.{Network}
-use Rattle.answers.specs.declared.Answer.TheVariants.{Done, LongText, ShortTable}
+use Rattle.answers.specs.Answers.{Done}
+use Rattle.answers.specs.declared.Refusal.TheVariants.{LongText, ShortTable}
 use Rattle.tokens.specs.Tokens.{text_of}
 use Rattle.tokens.specs.Steps.{Got, got, refused, Reads, ◌>>=◌, ◌>>◌, pure}
 use Rattle.tokens.specs.Words.{finish}
@@ -50,7 +51,7 @@ network = do
 -- "a lent table shorter than E": 7
 abbrev pub fitted : ℕ → Got Draft → Got Draft
 fitted room (got d next) = cond (leb (length d.table) room) (got d next) (refused ShortTable)
-fitted room (refused answer) = refused answer
+fitted room (refused refusal) = refused refusal
 
 -- what reading a text gives, beside a lent table of so many entries
 unfoldable pub reading : List ℕ → ℕ → Got Draft
@@ -70,9 +71,9 @@ no_network = record {
 -- the answer and the network: "Beside a refusal and its place, everything returned is zero"
 abbrev pub answered : Got Draft → Reading
 answered (got d next) = record { answer = Done; network = d.net }
-answered (refused answer) = record { answer = answer; network = no_network }
+answered (refused refusal) = record { answer = Err refusal; network = no_network }
 
 -- the lent table then: "A refused read .. leaves zeros throughout"; "Table entries past E are left alone by a successful read"
 abbrev pub table_after : Got Draft → List ℕ → List ℕ
 table_after (got d next) table = d.table ++ drop (length d.table) table
-table_after (refused answer) table = replicate (length table) 0
+table_after (refused refusal) table = replicate (length table) 0

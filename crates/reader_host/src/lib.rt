@@ -14,6 +14,5 @@ pub extern "C" fn read_text(text: &[u8], table: &mut [u64]) -> u64
     ensures table_after { table.new ≡ table_after (reading text.now (length table.old)) table.old }
 {
     let read = reader::reading::read(text, table);
-    let answer = read.answer;
-    number(answer)
+    number(read.answer)
 }

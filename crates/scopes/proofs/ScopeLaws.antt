@@ -1,24 +1,16 @@
 -- Laws of `scope`, one turn at a time, and what is known of a scope that was read. Assumes nothing.
-use Prim.Native.Nat.{ℕ, zero, suc, ◌+◌, ◌*◌, ◌≤◌, ◌<◌}
-use mathlib.Core.Path.{◌≡◌, refl, sym, ap, ◌∙◌}
-use mathlib.Core.List.{List, [], ◌∷◌, ◌++◌}
-use mathlib.Core.Bool.{Bool, true, false, not, ◌||◌}
-use native.Mathlib.Numerals.{add-one}
-use native.Mathlib.Omega.{arith}
-use lib.Dec.{T, eqb, leb, ltb, leb→le, ltb→lt, eqb_refl}
-use lib.ListN.{length, get_or, take, drop, set, drop_of_length-le, length-append}
-use lib.Seq.{drop-cons, take-suc, take-suc-set}
-use borrow.Author.Tests.{eq-eqb, ne_eqb}
+use Rattle.std.specs.Prelude.{Result, Ok, Err, T}
+use Rattle.std.proofs.Common.{ℕ, zero, suc, ◌+◌, ◌*◌, ◌≤◌, ◌<◌, ◌≡◌, refl, sym, ap, ◌∙◌, List, [], ◌∷◌, ◌++◌, Bool, true, false, not, ◌||◌, add-one, arith, eqb, leb, ltb, length, get_or, take, set, length-append, ne_eqb, leb→le, ltb→lt, take-suc, take-suc-set}
+use Rattle.std.specs.List.{list_any}
+use lib.Dec.{eqb_refl}
 use Rattle.costs.specs.Limits.{size_most, entries_most, arity_most}
 use Rattle.costs.specs.Net.{All}
 use Rattle.costs.specs.Tests.{among, different}
-use Rattle.answers.specs.declared.Answer.{Answer}
+use Rattle.answers.specs.declared.Refusal.{Refusal}
 use Rattle.tokens.specs.Tokens.{Text}
 use Rattle.tokens.specs.Steps.{got, refused, and_then, demand}
 use Rattle.tokens.specs.Ties.Outcomes.{num_is}
 use Rattle.tokens.specs.declared.numbers.Seen.{Seen}
-use Rattle.tokens.specs.declared.numbers.Num.{Num}
-use Rattle.tokens.specs.declared.numbers.Num.TheVariants.{Is, No}
 use Rattle.costs.proofs.TestLaws.{by_and, by_ltb, by_self, so, not_so, both}
 use Rattle.tokens.proofs.StepLaws.{and_then_lem, demanded, same-value}
 use Rattle.scopes.specs.Scopes.{scope_sizes, variable, scope}
@@ -27,13 +19,13 @@ use Rattle.stretches.proofs.SizeLaws.{product_more}
 use Rattle.stretches.specs.Sizes.{product}
 use Rattle.stretches.specs.Ties.Small.{Small}
 
-module _ (vars : ℕ) (sizes : List ℕ) (entries left m : ℕ) (xs : List ℕ) (text : Text) (at : ℕ) (e : left ≡ suc m) (r : Num)
+module _ (vars : ℕ) (sizes : List ℕ) (entries left m : ℕ) (xs : List ℕ) (text : Text) (at : ℕ) (e : left ≡ suc m) (r : Result Seen Refusal)
     (h : num_is r ≡ variable vars sizes entries m xs text at) where
-  pub scope_stop : (answer : Answer) → r ≡ No answer → scope vars sizes entries left xs text at ≡ refused answer
+  pub scope_stop : (refusal : Refusal) → r ≡ Err refusal → scope vars sizes entries left xs text at ≡ refused refusal
   unfolding scope and_then demand
-  scope_stop answer f = rw (e, ← h, f)
+  scope_stop refusal f = rw (e, ← h, f)
 
-  pub scope_more : (x : Seen) → r ≡ Is x → scope vars sizes entries left xs text at ≡ scope vars sizes entries m (xs ++ x.value ∷ []) text x.next
+  pub scope_more : (x : Seen) → r ≡ Ok x → scope vars sizes entries left xs text at ≡ scope vars sizes entries m (xs ++ x.value ∷ []) text x.next
   unfolding scope and_then demand
   scope_more x f = rw (e, ← h, f)
 
@@ -59,17 +51,10 @@ among_more x y (z ∷ xs) = go (eqb x z) (among_more x y xs)
     go true ih = refl
     go false ih = ih
 
--- the places of a list, one at a time
-module _ (x : ℕ) (l : List ℕ) (j : ℕ) where
-  pub among_end : length l ≤ j → among x (drop j l) ≡ false
-  among_end h = rw (drop_of_length-le l h)
-
-  module _ (h : j < length l) where
-    pub among_here : x ≡ get_or l j 0 → among x (drop j l) ≡ true
-    among_here e = rw (drop-cons l j 0 h, eq-eqb _ _ e)
-
-    pub among_next : (x ≡ get_or l j 0 → ⊥) → among x (drop j l) ≡ among x (drop (j + 1) l)
-    among_next d = rw (drop-cons l j 0 h, ne_eqb _ _ d, add-one)
+-- as std says that one passes a test
+pub among_any : (x : ℕ) (l : List ℕ) → list_any (λ v. eqb x v) l ≡ among x l
+among_any x [] = refl
+among_any x (v ∷ l) = ap (λ r. eqb x v || r) (among_any x l)
 
 pub sizes_step : (sizes variables dims : List ℕ) (j s : ℕ) → j < length dims → j < length variables → take j dims ≡ scope_sizes sizes (take j variables)
     → s ≡ get_or sizes (get_or variables j 0) 0 → take (j + 1) (set dims j s) ≡ scope_sizes sizes (take (j + 1) variables)

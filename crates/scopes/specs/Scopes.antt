@@ -2,7 +2,7 @@
 use Rattle.std.specs.Prelude.{ℕ, zero, suc, ◌+◌, ◌&&◌, ◌||◌, not, List, [], ◌∷◌, ◌++◌, map, ltb, leb, length, get_or}
 use Rattle.costs.specs.Limits.{entries_most}
 use Rattle.costs.specs.Tests.{among}
-use Rattle.answers.specs.declared.Answer.TheVariants.{OutOfRange, Unfitting}
+use Rattle.answers.specs.declared.Refusal.TheVariants.{OutOfRange, Unfitting}
 use Rattle.tokens.specs.Steps.{Reads, ◌>>=◌, ◌>>◌, pure, demand, at_last}
 use Rattle.tokens.specs.Numbers.{any_number}
 use Rattle.tokens.specs.declared.numbers.Seen.{Seen}

@@ -1,7 +1,7 @@
 // A function's scope, read, and the sizes of its variables.
 #![tactic(auto)]
 
-ghost use Rattle.std.specs.Prelude.{◌≡◌, [], ◌*◌, ◌≤◌, length, get_or, take};
+ghost use Rattle.std.specs.Prelude.{◌≡◌, [], ◌*◌, ◌≤◌, length, take};
 ghost use Rattle.costs.specs.Limits.{size_most, arity_most, entries_most};
 ghost use Rattle.costs.specs.Tests.{among};
 ghost use Rattle.tokens.specs.Tokens.{text_of};
@@ -10,13 +10,20 @@ ghost use Rattle.scopes.specs.Scopes.{scope_sizes, variable, scope};
 ghost use Rattle.stretches.specs.Sizes.{product};
 ghost use Rattle.stretches.specs.Ties.Small.{Ranged};
 
-use answers::Answer;
+use answers::Refusal;
 use costs::limits::ENTRIES;
 use stretches::byte_in;
-use tokens::numbers::{Num, any_number};
-use tokens::words::Pos;
+use tokens::numbers::{Seen, any_number};
 
-// The scope's variables, into as many places.
+// What a scope is read against: how many variables there are, their sizes, and the entries of the functions before.
+#[derive(Clone, Copy)]
+struct Domains<'a> {
+    sizes: &'a [u8],
+    vars: usize,
+    entries: usize,
+}
+
+// The scope's variables, into as many places. The arity stands beside the places, since the promise speaks of the first so many of a longer slice.
 pub fn read_scope(
     variables: &mut [u8],
     text: &[u8],
@@ -25,91 +32,69 @@ pub fn read_scope(
     vars: usize,
     entries: usize,
     arity: usize,
-) -> Pos
+) -> Result<usize, Refusal>
     requires ranged { Ranged vars sizes.now }
     requires arity_le_arity_most { (arity ≤ arity_most) × (arity ≤ length variables.old) × (entries ≤ entries_most) }
     ensures { pos_is result (take arity variables.new) ≡ scope vars sizes.now entries arity [] (text_of text.now) at }
 {
-    let mut j: usize = 0;
-    let mut left = arity;
+    let domains = Domains {
+        sizes,
+        vars,
+        entries,
+    };
     let mut many: usize = 1;
     let mut next = at;
-    while 0 < left {
-        left -= 1;
-        let x = match read_variable(variables, text, next, sizes, vars, entries, left, j, many) {
-            Num::Is(x) => x,
-            Num::No(answer) => return Pos::Refused(answer),
-        };
-        many = many * (byte_in(sizes, x.value as usize) as usize);
+    for j in 0..arity {
+        let x = read_variable(text, next, domains, &variables[..j], many, arity - 1 - j)?;
+        many *= byte_in(sizes, x.value as usize) as usize;
         variables[j] = x.value as u8;
-        j += 1;
         next = x.next;
     }
-    Pos::At(next)
+    Ok(next)
 }
 
-// One variable after j others that have so many tuples, with so many after it.
+// One variable after others that have so many tuples, with so many after it.
+#[tactic(auto, unfolding(crate::specs::Scopes::variable, tokens::specs::Steps::and_then, tokens::specs::Steps::demand))]
 fn read_variable(
-    variables: &[u8],
     text: &[u8],
     at: usize,
-    sizes: &[u8],
-    vars: usize,
-    entries: usize,
-    left: usize,
-    j: usize,
+    domains: Domains,
+    others: &[u8],
     many: usize,
-) -> Num
-    requires ranged { Ranged vars sizes.now }
-    requires j_in_bounds { (j ≤ length variables.now) × (many ≤ size_most * size_most) × (many ≡ product (scope_sizes sizes.now (take j variables.now))) × (entries ≤ entries_most) }
-    ensures { num_is result ≡ variable vars sizes.now entries left (take j variables.now) (text_of text.now) at }
+    left: usize,
+) -> Result<Seen, Refusal>
+    requires ranged { Ranged domains.vars domains.sizes.now }
+    requires tuples { (many ≤ size_most * size_most) × (many ≡ product (scope_sizes domains.sizes.now others.now)) × (domains.entries ≤ entries_most) }
+    ensures { let d = domains.entry in num_is result ≡ variable d.vars d.sizes.now d.entries left others.now (text_of text.now) at }
 {
-    let x = match any_number(text, at) {
-        Num::Is(x) => x,
-        Num::No(answer) => return Num::No(answer),
-    };
-    if (vars as u64) <= x.value {
-        return Num::No(Answer::Unfitting(x.place));
+    let x = any_number(text, at)?;
+    if (domains.vars as u64) <= x.value || is_among(x.value, others) {
+        return Err(Refusal::Unfitting(x.place));
     }
-    if is_among(variables, j, x.value) {
-        return Num::No(Answer::Unfitting(x.place));
+    let first = others.is_empty();
+    if 0 < left || first {
+        return Ok(x);
     }
-    if 0 < left {
-        return Num::Is(x);
+    let size = byte_in(domains.sizes, x.value as usize) as usize;
+    if ENTRIES < domains.entries + many * size {
+        return Err(Refusal::OutOfRange(x.place));
     }
-    if j < 1 {
-        return Num::Is(x);
-    }
-    let size = byte_in(sizes, x.value as usize) as usize;
-    if ENTRIES < entries + many * size {
-        return Num::No(Answer::OutOfRange(x.place));
-    }
-    Num::Is(x)
+    Ok(x)
 }
 
-// Whether x stands in the first places of a scope.
-fn is_among(variables: &[u8], count: usize, x: u64) -> bool
-    requires { count ≤ length variables.now }
-    ensures { result ≡ among x (take count variables.now) }
+// Whether x is one of some variables.
+fn is_among(x: u64, variables: &[u8]) -> bool
+    ensures { result ≡ among x variables.now }
 {
-    let mut j: usize = 0;
-    while j < count {
-        if x == byte_in(variables, j) {
-            return true;
-        }
-        j += 1;
-    }
-    false
+    variables.iter().any(|v| u64::from(*v) == x)
 }
 
-// The sizes of a scope's variables.
+// The sizes of a scope's variables, into the first so many places of a longer slice.
 pub fn fill_sizes(dims: &mut [u64], variables: &[u8], sizes: &[u8], arity: usize)
     requires { (arity ≤ length dims.old) × (arity ≤ length variables.now) }
     ensures { take arity dims.new ≡ scope_sizes sizes.now (take arity variables.now) }
 {
-    let mut j: usize = 0;
-    while j < arity {
-        dims[j] = byte_in(sizes, byte_in(variables, j) as usize);
-        j += 1;
+    for j in 0..arity {
+        dims[j] = byte_in(sizes, variables[j] as usize);
     }
 }

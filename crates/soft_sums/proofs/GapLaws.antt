@@ -1,10 +1,5 @@
 -- A sum has no gap exactly where its comparator permits it; where any sum is permitted, the gap is the distance to the nearest. Assumes nothing.
-use Prim.Native.Nat.{ℕ, suc, ◌+◌, ◌-◌, ◌≤◌}
-use mathlib.Core.Path.{◌≡◌, refl}
-use mathlib.Core.Bool.{Bool, true, false, cond}
-use mathlib.Core.Logic.{◌⊎◌, inl, inr, ⊎_elim}
-use native.Mathlib.Omega.{arith}
-use lib.Dec.{T, eqb}
+use Rattle.std.proofs.Common.{ℕ, suc, ◌+◌, ◌-◌, ◌≤◌, ◌≡◌, refl, Bool, true, false, cond, ◌⊎◌, inl, inr, ⊎_elim, arith, T, eqb}
 use Rattle.costs.proofs.TestLaws.{by_eqb}
 use Rattle.soft_sums.specs.Soft.{gap_below, gap}
 use Rattle.soft_sums.specs.Permitted.{Permitted, apart, Nearest}

@@ -1,38 +1,38 @@
--- Laws of the soft sum: the last of its modes and comparators, its values read from the last, its entries one at a time, and what is known of one that was read. Assumes nothing.
-use Prim.Native.Nat.{ℕ, zero, suc, ◌+◌, ◌/◌, ◌%◌, ◌≤◌, ◌<◌}
-use mathlib.Core.Path.{◌≡◌, refl, sym, ap, ◌∙◌}
-use mathlib.Core.List.{List}
-use native.Mathlib.Nat.{div-one, div-div-eq-div-mul, mul_comm, add_comm}
-use native.Mathlib.Numerals.{add-one}
-use lib.ListN.{length, get_or, take, drop, set, drop_of_length-le}
-use lib.Seq.{drop-cons, take-suc-set}
-use Rattle.costs.specs.Range.{list_to}
+-- Laws of the soft sum: its modes and comparators by their places, its values read from the last, and what is known of one that was read. Assumes nothing.
+use Rattle.std.proofs.Common.{ℕ, suc, ◌+◌, ◌-◌, ◌/◌, ◌%◌, ◌≤◌, ◌<◌, ◌≡◌, refl, sym, ap, ◌∙◌, List, length, get_or, drop, drop-cons, reverse, arith, div-one, mod-lt, mul_comm, add_comm, drop_of_length-le}
+use Rattle.std.proofs.lemmas.List.{get_or-reverse, length-reverse}
+use Rattle.std.proofs.lemmas.Grind.{get_or_default_zero}
+use native.Mathlib.Nat.{div-div-eq-div-mul}
 use Rattle.tokens.specs.Tokens.{Text}
 use Rattle.tokens.specs.Steps.{got}
 use Rattle.tokens.proofs.StepLaws.{and_then_lem, same-value}
 use Rattle.tokens.proofs.NumberLaws.{in_range}
+use Rattle.costs.specs.Limits.{size_most}
 use Rattle.stretches.specs.Sizes.{product}
-use Rattle.soft_sums.specs.Soft.{mode_at, comparator_at, soft_sum, values_at, total}
+use Rattle.stretches.specs.Ties.Small.{Small}
+use Rattle.soft_sums.specs.Soft.{mode_at, mode_place, comparator_at, comparator_place, soft_sum, values_at, total}
 use Rattle.soft_sums.specs.Ties.Outcomes.{Fair}
-use Rattle.soft_sums.specs.declared.Mode.TheVariants.{Quad}
-use Rattle.soft_sums.specs.declared.Comparator.TheVariants.{AtLeast}
+use Rattle.soft_sums.specs.declared.Mode.{Mode}
+use Rattle.soft_sums.specs.declared.Mode.TheVariants.{Hard, Lin, Quad}
+use Rattle.soft_sums.specs.declared.Comparator.{Comparator}
+use Rattle.soft_sums.specs.declared.Comparator.TheVariants.{Equal, Unequal, Below, AtMost, Above, AtLeast}
 use Rattle.soft_sums.specs.declared.Soft.{Soft}
 
--- any other place is the last one's
-pub mode_last : (place : ℕ) → (place ≡ 0 → ⊥) → (place ≡ 1 → ⊥) → Quad ≡ mode_at place
+-- what stands at its place
+pub mode_placed : (m : Mode) → mode_at (mode_place m) ≡ m
 unfolding mode_at
-mode_last zero a b = absurd (a refl)
-mode_last (suc zero) a b = absurd (b refl)
-mode_last (suc (suc place)) a b = refl
+mode_placed Hard = refl
+mode_placed Lin = refl
+mode_placed Quad = refl
 
-pub comparator_last : (place : ℕ) → (place ≡ 0 → ⊥) → (place ≡ 1 → ⊥) → (place ≡ 2 → ⊥) → (place ≡ 3 → ⊥) → (place ≡ 4 → ⊥) → AtLeast ≡ comparator_at place
+pub comparator_placed : (c : Comparator) → comparator_at (comparator_place c) ≡ c
 unfolding comparator_at
-comparator_last zero a b c d e = absurd (a refl)
-comparator_last (suc zero) a b c d e = absurd (b refl)
-comparator_last (suc (suc zero)) a b c d e = absurd (c refl)
-comparator_last (suc (suc (suc zero))) a b c d e = absurd (d refl)
-comparator_last (suc (suc (suc (suc zero)))) a b c d e = absurd (e refl)
-comparator_last (suc (suc (suc (suc (suc place))))) a b c d e = refl
+comparator_placed Equal = refl
+comparator_placed Unequal = refl
+comparator_placed Below = refl
+comparator_placed AtMost = refl
+comparator_placed Above = refl
+comparator_placed AtLeast = refl
 
 -- no value yet, from the last on
 pub sum_none : (ds : List ℕ) (j entry : ℕ) → length ds ≤ j → (entry ≡ entry / product (drop j ds)) × (0 ≡ total (values_at (drop j ds) entry))
@@ -54,9 +54,16 @@ pub sum_more : (ds : List ℕ) (k j entry rest sum : ℕ) → k ≡ suc j → j 
     → (rest / get_or ds j 0 ≡ entry / product (drop j ds)) × (sum + rest % get_or ds j 0 ≡ total (values_at (drop j ds) entry))
 sum_more ds k j entry rest sum e h = rw e (before_it ds j entry rest sum h)
 
--- one entry more
-pub list_more : (cells : List ℕ) (i v : ℕ) (g : ℕ → ℕ) → i < length cells → take i cells ≡ list_to i g → v ≡ g i → take (i + 1) (set cells i v) ≡ list_to (i + 1) g
-list_more cells i v g h e f = rw (add-one, take-suc-set cells i v h, e, f)
+-- the size that a loop from the end comes to after n others
+pub from_end : (ds : List ℕ) (n d : ℕ) → (n < length (reverse ds)) × (d ≡ get_or (reverse ds) n d) → (n < length ds) × (d ≡ get_or ds (length ds - 1 - n) 0)
+from_end ds n d h =
+    let l : n < length ds = omega (arith, h.0, length-reverse ds) in
+    (l, h.1 ∙ get_or-reverse ds n d l ∙ get_or_default_zero ds (length ds - 1 - n) d (omega arith))
+
+pub value_small : (ds : List ℕ) (n d rest : ℕ) → Small ds → (n < length ds) × (d ≡ get_or ds (length ds - 1 - n) 0) → rest % d < size_most
+value_small ds n d rest small h =
+    let m = mod-lt rest (small.some (length ds - 1 - n) (omega (arith, h.0))) in
+    rw h.1 (omega (arith, m, small.most (length ds - 1 - n)))
 
 -- a soft sum that was read has its numbers in range
 pub soft_fair : (text : Text) (at : ℕ) (soft : Soft) (next : ℕ) → got soft next ≡ soft_sum text at → Fair soft

@@ -23,6 +23,12 @@ mode_at zero = Hard
 mode_at (suc zero) = Lin
 mode_at (suc (suc place)) = Quad
 
+-- and its place by M
+abbrev pub mode_place : Mode → ℕ
+mode_place Hard = 0
+mode_place Lin = 1
+mode_place Quad = 2
+
 -- == != < <= > >=
 abbrev pub comparators : List (List ℕ)
 comparators = (61 ∷ 61 ∷ []) ∷ (33 ∷ 61 ∷ []) ∷ (60 ∷ []) ∷ (60 ∷ 61 ∷ []) ∷ (62 ∷ []) ∷ (62 ∷ 61 ∷ []) ∷ []
@@ -35,6 +41,15 @@ comparator_at (suc (suc zero)) = Below
 comparator_at (suc (suc (suc zero))) = AtMost
 comparator_at (suc (suc (suc (suc zero)))) = Above
 comparator_at (suc (suc (suc (suc (suc place))))) = AtLeast
+
+-- and its place by C
+abbrev pub comparator_place : Comparator → ℕ
+comparator_place Equal = 0
+comparator_place Unequal = 1
+comparator_place Below = 2
+comparator_place AtMost = 3
+comparator_place Above = 4
+comparator_place AtLeast = 5
 
 unfoldable pub soft_sum : Reads Soft
 soft_sum = do

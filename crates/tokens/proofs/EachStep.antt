@@ -1,24 +1,17 @@
 -- What each step of reading keeps: it asks the text only where reading has come to, and what it refuses is 2 to 6. Assumes nothing.
-use Prim.Native.Nat.{ℕ, ◌≤◌}
-use mathlib.Core.Path.{◌≡◌, refl}
-use mathlib.Core.Bool.{Bool, true, false, cond}
-use mathlib.Core.List.{List}
-use native.Mathlib.Omega.{arith}
-use lib.Dec.{ltb}
-use lib.ListN.{length}
-use Rattle.answers.specs.declared.Answer.{Answer}
-use Rattle.answers.specs.Answers.{number_of}
+use Rattle.std.proofs.Common.{ℕ, ◌≤◌, ◌≡◌, refl, Bool, true, false, cond, List, arith, ltb, length}
+use Rattle.std.specs.Prelude.{Option, Some, None}
+use Rattle.answers.specs.Answers.{refusal_number}
+use Rattle.answers.specs.declared.Refusal.{Refusal}
 use Rattle.tokens.specs.Tokens.{Text}
 use Rattle.tokens.specs.Steps.{Got, got, refused, and_then, demand}
 use Rattle.tokens.specs.Numbers.{value_of, taken, any_number, number_in}
 use Rattle.tokens.specs.Names.{is_name}
 use Rattle.tokens.specs.Words.{name, same, place_among, word, follows, finish}
-use Rattle.tokens.specs.declared.numbers.Digits.{Digits}
-use Rattle.tokens.specs.declared.numbers.Digits.TheVariants.{Value, Not}
 
 -- "token missing or not of its kind" up to "text after the last function"
-abbrev pub OfTokens : Answer → Type 0
-OfTokens a = (2 ≤ number_of a) × (number_of a ≤ 6)
+abbrev pub OfTokens : Refusal → Type 0
+OfTokens a = (2 ≤ refusal_number a) × (refusal_number a ≤ 6)
 
 -- two texts that have the same tokens at the positions R, which reading does not leave
 pub record Meet (R : ℕ → Type 0) (s t : Text) : Type 0 where
@@ -29,13 +22,13 @@ pub record Meet (R : ℕ → Type 0) (s t : Text) : Type 0 where
 pub record Alike (R : ℕ → Type 0) {A : Type 0} (g h : Got A) : Type 0 where
   pub same : g ≡ h
   pub stays : (a : A) (next : ℕ) → g ≡ got a next → R next
-  pub refuses : (a : Answer) → g ≡ refused a → OfTokens a
+  pub refuses : (a : Refusal) → g ≡ refused a → OfTokens a
 
 module _ {R : ℕ → Type 0} where
   pub alike_pure : {A : Type 0} (a : A) (at : ℕ) → R at → Alike R (got a at) (got a at)
   alike_pure a at r = record { same = refl; stays = λ b next e. let q : at ≡ next = cc in rw (← q) r; refuses = λ b e. absurd (let z : ◌≡◌ {A = ℕ} 0 1 = cc in omega arith) }
 
-  pub alike_refused : {A : Type 0} (a : Answer) → OfTokens a → Alike R {A = A} (refused a) (refused a)
+  pub alike_refused : {A : Type 0} (a : Refusal) → OfTokens a → Alike R {A = A} (refused a) (refused a)
   alike_refused a o = record { same = refl; stays = λ b next e. absurd (let z : ◌≡◌ {A = ℕ} 0 1 = cc in omega arith); refuses = λ b e. let q : a ≡ b = cc in rw (← q) o }
 
   pub alike_then : {A B : Type 0} {g h : Got A} {f k : A → ℕ → Got B} → Alike R g h → ((a : A) (next : ℕ) → R next → Alike R (f a next) (k a next)) → Alike R (and_then g f) (and_then h k)
@@ -48,7 +41,7 @@ module _ {R : ℕ → Type 0} where
   alike_cond false x y = y
 
   module _ {s t : Text} (m : Meet R s t) where
-    pub alike_demand : (b : Bool) (a : Answer) (at : ℕ) → OfTokens a → R at → Alike R (demand b a s at) (demand b a t at)
+    pub alike_demand : (b : Bool) (a : Refusal) (at : ℕ) → OfTokens a → R at → Alike R (demand b a s at) (demand b a t at)
     unfolding demand
     alike_demand true a at o r = alike_pure tt at r
     alike_demand false a at o r = alike_refused a o
@@ -57,9 +50,9 @@ module _ {R : ℕ → Type 0} where
     unfolding any_number
     alike_any at r = rw (← m.meets at r) (go (value_of (s at).bytes))
       where
-        go : (v : Digits) → Alike R (taken (s at) v) (taken (s at) v)
-        go (Value v) = alike_pure _ _ (m.onward at r)
-        go Not = alike_refused _ (omega arith, omega arith)
+        go : (v : Option ℕ) → Alike R (taken (s at) v) (taken (s at) v)
+        go (Some v) = alike_pure _ _ (m.onward at r)
+        go None = alike_refused _ (omega arith, omega arith)
 
     pub alike_in : (least most at : ℕ) → R at → Alike R (number_in least most s at) (number_in least most t at)
     unfolding number_in

@@ -1,12 +1,7 @@
 -- Laws of `is_name`: it decides what a name is, and no separator stands in a name. Assumes nothing.
-use Prim.Native.Nat.{ℕ, ◌≤◌}
-use mathlib.Core.Path.{◌≡◌}
-use mathlib.Core.Bool.{true}
-use mathlib.Core.List.{List}
-use native.Mathlib.Omega.{arith}
-use lib.ListN.{length, get_or}
-use borrow.Author.Tests.{ne_eqb}
-use Rattle.costs.specs.Tests.{Decides}
+use Rattle.std.proofs.Common.{ℕ, ◌≤◌, ◌≡◌, refl, ap, Bool, true, ◌&&◌, List, [], ◌∷◌, arith, length, get_or, ne_eqb}
+use Rattle.std.specs.List.{list_all}
+use Rattle.costs.specs.Tests.{Decides, every}
 use Rattle.costs.proofs.NetLaws.{All-at}
 use Rattle.costs.proofs.TestLaws.{by_map, by_and, by_between, by_every}
 use Rattle.tokens.specs.TextLimits.{name_most, name_byte_least, name_byte_most}
@@ -19,6 +14,11 @@ unfolding is_name
 by_name w =
     by_map (λ h. record { some = h.0.0; short = h.0.1; plain = h.1 }) (λ n. ((n.some, n.short), n.plain))
     (by_and (by_between 1 name_most (length w)) (by_every _ _ (by_between name_byte_least name_byte_most) w))
+
+-- as std says that each passes a test
+pub every_list_all : (t : ℕ → Bool) (w : List ℕ) → list_all t w ≡ every t w
+every_list_all t [] = refl
+every_list_all t (b ∷ w) = ap (λ r. t b && r) (every_list_all t w)
 
 -- no separator stands in a name
 pub name-dark : (w : List ℕ) → IsName w → Passes dark w 0 (length w)

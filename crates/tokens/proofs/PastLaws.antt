@@ -1,13 +1,5 @@
 -- `past p s i` moves on by one where the byte at i passes, and stays where it does not or the text ends. Assumes nothing.
-use Prim.Native.Nat.{ℕ, suc, ◌+◌, ◌≤◌, ◌<◌, zero-le, suc-le-suc}
-use mathlib.Core.Path.{◌≡◌}
-use mathlib.Core.List.{List, [], ◌∷◌}
-use mathlib.Core.Bool.{Bool, true, false, cond}
-use native.Mathlib.Nat.{add-zero, add-suc, suc-add}
-use native.Mathlib.Numerals.{add-one}
-use native.Mathlib.Omega.{arith}
-use lib.ListN.{length, get_or, drop, length-drop, drop_of_length-le}
-use lib.Seq.{drop-cons}
+use Rattle.std.proofs.Common.{ℕ, suc, ◌+◌, ◌≤◌, ◌<◌, zero-le, suc-le-suc, ◌≡◌, List, [], ◌∷◌, Bool, true, false, cond, add-zero, add-suc, suc-add, add-one, arith, length, get_or, drop, length-drop, drop_of_length-le, drop-cons}
 use Rattle.tokens.specs.Tokens.{lead, past}
 
 module _ (p : ℕ → Bool) (s : List ℕ) (i : ℕ) where

@@ -1,9 +1,5 @@
 -- Laws of `token_at` and of what reading sees of a token. Assumes nothing.
-use Prim.Native.Nat.{ℕ, ◌≤◌, ◌<◌}
-use mathlib.Core.Path.{◌≡◌}
-use mathlib.Core.List.{List, []}
-use native.Mathlib.Nat.{sub-eq-zero_of_le}
-use lib.ListN.{length}
+use Rattle.std.proofs.Common.{ℕ, ◌≤◌, ◌<◌, ◌≡◌, List, [], sub-eq-zero_of_le, length}
 use Rattle.tokens.specs.declared.tokens.Token.{Token}
 use Rattle.tokens.specs.Tokens.{dark, token_at, token_bytes, text_of}
 use Rattle.tokens.proofs.PastLaws.{past_in}

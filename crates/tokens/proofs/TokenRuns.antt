@@ -1,13 +1,7 @@
 -- "Tokens are runs of bytes other than space, tab, LF and CR": what reading comes to, from the start on, are the maximal runs of dark bytes, each
 -- of them once and nothing else. Assumes nothing.
-use Prim.Native.Nat.{ℕ, zero, suc, ◌+◌, ◌-◌, ◌≤◌, ◌<◌}
-use mathlib.Core.Path.{◌≡◌, refl, sym, ap, ◌∙◌}
-use mathlib.Core.Bool.{Bool, true, false, not}
-use mathlib.Core.Logic.{◌⊎◌, inl, inr, ⊎_elim}
-use mathlib.Core.List.{List}
-use native.Mathlib.Omega.{arith}
+use Rattle.std.proofs.Common.{ℕ, zero, suc, ◌+◌, ◌-◌, ◌≤◌, ◌<◌, ◌≡◌, refl, sym, ap, ◌∙◌, Bool, true, false, not, ◌⊎◌, inl, inr, ⊎_elim, List, arith, length, get_or}
 use native.Mathlib.Decide.{dec_lt, ℕ_discrete}
-use lib.ListN.{length, get_or}
 use borrow.Author.Tests.{not-false}
 use Rattle.tokens.specs.declared.tokens.Token.{Token}
 use Rattle.tokens.specs.Tokens.{white, dark, past, token_at}

@@ -1,6 +1,6 @@
 -- Tokens that are names or words; words are exact bytes.
-use Rattle.std.specs.Prelude.{ℕ, suc, List, [], ◌∷◌, Bool, true, false, cond, ◌&&◌, length, ltb, eqb}
-use Rattle.answers.specs.declared.Answer.TheVariants.{BadToken, TextAfter}
+use Rattle.std.specs.Prelude.{ℕ, suc, List, [], ◌∷◌, Bool, true, false, Option, Some, None, cond, ◌&&◌, length, ltb, eqb}
+use Rattle.answers.specs.declared.Refusal.TheVariants.{BadToken, TextAfter}
 use Rattle.tokens.specs.Steps.{Got, got, refused, Reads}
 use Rattle.tokens.specs.Names.{is_name}
 
@@ -19,6 +19,10 @@ same (b ∷ v) (c ∷ w) = eqb b c && same v w
 unfoldable pub place_among : List (List ℕ) → List ℕ → ℕ
 place_among [] w = 0
 place_among (v ∷ vs) w = cond (same w v) 0 (suc (place_among vs w))
+
+-- the same; none where it is none of them
+abbrev pub word_at : List (List ℕ) → List ℕ → Option ℕ
+word_at ws w = cond (ltb (place_among ws w) (length ws)) (Some (place_among ws w)) None
 
 -- the next token, as the word that it is among so many: 2 where it is none
 abbrev pub word_among : ℕ → ℕ → ℕ → ℕ → Got ℕ

@@ -5,25 +5,11 @@ ghost use Rattle.tokens.specs.Names.{is_name};
 use crate::limits::{NAME, NAME_BYTE_LEAST, NAME_BYTE_MOST};
 
 // Whether a run of bytes is a name. It need not be a token: a separator in it is refused like any other byte outside the range.
+#[tactic(auto, unfolding(crate::specs::Names::is_name))]
 pub fn is_name(w: &[u8]) -> bool
     ensures { result ≡ is_name w.now }
 {
-    if w.len() < 1 {
-        return false;
-    }
-    if NAME < w.len() {
-        return false;
-    }
-    let mut i = 0;
-    while i < w.len() {
-        let b = w[i];
-        if b < NAME_BYTE_LEAST {
-            return false;
-        }
-        if NAME_BYTE_MOST < b {
-            return false;
-        }
-        i += 1;
-    }
-    true
+    (1..=NAME).contains(&w.len())
+        && w.iter()
+            .all(|b| (NAME_BYTE_LEAST..=NAME_BYTE_MOST).contains(b))
 }

@@ -1,75 +1,51 @@
 // Where the next token of a text stands.
-ghost use Rattle.std.specs.Prelude.{◌≡◌, ◌≤◌, ◌<◌, length};
-ghost use Rattle.tokens.specs.Tokens.{white, dark, past, token_at, token_bytes};
+ghost use Rattle.std.specs.Prelude.{◌≡◌, ℕ, Bool, ◌≤◌, ◌<◌, length};
+ghost use Rattle.tokens.specs.Tokens.{white, past, token_at, token_bytes};
 
 // From start up to end. No token is left where the two are equal.
-#[derive(Clone, Copy)]
+#[derive(Clone, Copy, Debug, PartialEq, Eq)]
 pub struct Token {
     pub start: usize,
     pub end: usize,
 }
 
-// Whether a byte separates tokens: space, tab, LF, CR.
+// Whether a byte separates tokens.
+#[tactic(auto, unfolding(crate::specs::Tokens::white))]
 fn is_white(b: u8) -> bool
     ensures { result ≡ white b }
 {
-    if b == 32 {
-        return true;
-    }
-    if b == 9 {
-        return true;
-    }
-    if b == 10 {
-        return true;
-    }
-    b == 13
+    matches!(b, b' ' | b'\t' | b'\n' | b'\r')
 }
 
-fn skip_white(text: &[u8], at: usize) -> usize
-    ensures { result ≡ past white text.now at }
+// The first position from `at` on whose byte does not pass.
+fn past<F: Fn(u8) -> bool>(text: &[u8], at: usize, passes: F) -> usize
+    requires { F.IsAlwaysCallable passes }
+    ensures { (test : ℕ → Bool) → ((b : ℕ) (r : Bool) → F.post passes b r → r ≡ test b) → result ≡ past test text.now at }
 {
-    let mut i = at;
-    while i < text.len() {
-        if !is_white(text[i]) {
+    for i in at..text.len() {
+        if !passes(text[i]) {
             return i;
         }
-        i += 1;
     }
-    i
-}
-
-fn skip_dark(text: &[u8], at: usize) -> usize
-    ensures { result ≡ past dark text.now at }
-{
-    let mut i = at;
-    while i < text.len() {
-        if is_white(text[i]) {
-            return i;
-        }
-        i += 1;
-    }
-    i
+    at.max(text.len())
 }
 
 pub fn next_token(text: &[u8], at: usize) -> Token
     ensures { result ≡ token_at text.now at }
 {
-    let start = skip_white(text, at);
-    Token {
-        start: start,
-        end: skip_dark(text, start),
-    }
+    let start = past(text, at, is_white);
+    let end = past(text, start, |b| !is_white(b));
+    Token { start, end }
 }
 
 // A token's bytes; none where no token is left.
+#[tactic(auto, using(crate::proofs::TokenLaws::no_bytes), unfolding(crate::specs::Tokens::token_bytes))]
 pub fn bytes_of(text: &[u8], token: Token) -> &[u8]
     requires { token.start < token.end → token.end ≤ length text.now }
     ensures { result.now ≡ token_bytes text.now token }
 {
-    let start = token.start;
-    let end = token.end;
-    if end <= start {
-        return &text[0..0];
+    if token.end <= token.start {
+        return &[];
     }
-    &text[start..end]
+    &text[token.start..token.end]
 }

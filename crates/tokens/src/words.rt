@@ -1,105 +1,67 @@
 // Names and words of a text.
-ghost use Rattle.std.specs.Prelude.{◌≡◌};
+ghost use Rattle.std.specs.Prelude.{◌≡◌, ℕ, List, option_map};
 ghost use Rattle.tokens.specs.Tokens.{text_of};
-ghost use Rattle.tokens.specs.Words.{name, same, word_among, follows, finish};
+ghost use Rattle.tokens.specs.Words.{name, word_at, word, follows, finish};
 ghost use Rattle.tokens.specs.Ties.Outcomes.{pos_is, word_is, follows_is};
 
 use crate::names::is_name;
-use crate::tokens::{Token, bytes_of, next_token};
-use answers::Answer;
+use crate::tokens::{bytes_of, next_token};
+use answers::Refusal;
 
-// A position to read on from.
-#[derive(Clone, Copy)]
-pub enum Pos {
-    At(usize),
-    Refused(Answer),
+// What one of some words can stand for.
+pub trait Word: Sized {
+    // the words
+    ghost words: { List (List ℕ) };
+
+    // where its word stands among them
+    ghost place: { Self → ℕ };
+
+    // What a run of bytes stands for, if it is one of the words.
+    fn named(word: &[u8]) -> Option<Self>
+        ensures { option_map place result ≡ word_at words word.now };
 }
 
-// Which word of some a token is, and the position after it.
-#[derive(Clone, Copy)]
-pub struct Found {
-    pub index: u64,
-    pub next: usize,
-}
-
-#[derive(Clone, Copy)]
-pub enum Word {
-    Is(Found),
-    No(Answer),
-}
-
-// Whether the next token is a word, and the position to read on from.
-#[derive(Clone, Copy)]
-pub struct Follows {
-    pub found: bool,
-    pub next: usize,
-}
-
-pub fn read_name(text: &[u8], at: usize) -> Pos
+// A name is passed; the position after it.
+#[tactic(auto, using(crate::proofs::TokenLaws::within), unfolding(crate::specs::Words::name, crate::specs::Tokens::text_of))]
+pub fn read_name(text: &[u8], at: usize) -> Result<usize, Refusal>
     ensures { pos_is result tt ≡ name (text_of text.now) at }
 {
     let token = next_token(text, at);
-    if is_name(bytes_of(text, token)) {
-        return Pos::At(token.end);
+    if !is_name(bytes_of(text, token)) {
+        return Err(Refusal::BadToken(token.start));
     }
-    Pos::Refused(Answer::BadToken(token.start))
+    Ok(token.end)
 }
 
-// Whether two runs of bytes are the same.
-pub fn same_bytes(a: &[u8], b: &[u8]) -> bool
-    ensures { result ≡ same a.now b.now }
-{
-    if a.len() != b.len() {
-        return false;
-    }
-    let mut i: usize = 0;
-    while i < a.len() {
-        if a[i] != b[i] {
-            return false;
-        }
-        i += 1;
-    }
-    true
-}
-
-// The token as the i-th of so many words.
-pub fn word_found(i: u64, many: u64, token: Token) -> Word
-    ensures { word_is result ≡ word_among many i token.start token.end }
-{
-    if many <= i {
-        return Word::No(Answer::BadToken(token.start));
-    }
-    Word::Is(Found {
-        index: i,
-        next: token.end,
-    })
-}
-
-// Whether the next token is this word, which is then passed.
-pub fn passed(text: &[u8], at: usize, word: &[u8]) -> Follows
-    ensures { follows_is result ≡ follows word.now (text_of text.now) at }
+// One of some words, and the position after it.
+#[tactic(auto, using(crate::proofs::TokenLaws::within, crate::proofs::WordLaws::word_told), unfolding(crate::specs::Words::word, crate::specs::Tokens::text_of))]
+pub fn read_word<W: Word>(text: &[u8], at: usize) -> Result<(W, usize), Refusal>
+    ensures { word_is W.place result ≡ word W.words (text_of text.now) at }
 {
     let token = next_token(text, at);
-    if same_bytes(bytes_of(text, token), word) {
-        return Follows {
-            found: true,
-            next: token.end,
-        };
+    match W::named(bytes_of(text, token)) {
+        None => Err(Refusal::BadToken(token.start)),
+        Some(word) => Ok((word, token.end)),
     }
-    Follows {
-        found: false,
-        next: at,
-    }
+}
+
+// The position after this word, if it is the next token.
+#[tactic(auto, using(crate::proofs::TokenLaws::within, crate::proofs::WordLaws::same_pointwise), unfolding(crate::specs::Words::follows, crate::specs::Tokens::text_of))]
+pub fn passed(text: &[u8], at: usize, word: &[u8]) -> Option<usize>
+    ensures { follows_is at result ≡ follows word.now (text_of text.now) at }
+{
+    let token = next_token(text, at);
+    (bytes_of(text, token) == word).then_some(token.end)
 }
 
 // Nothing but white space is left.
-pub fn read_end(text: &[u8], at: usize) -> Pos
+#[tactic(auto, using(crate::proofs::TokenLaws::within), unfolding(crate::specs::Words::finish, crate::specs::Tokens::text_of))]
+pub fn read_end(text: &[u8], at: usize) -> Result<usize, Refusal>
     ensures { pos_is result tt ≡ finish (text_of text.now) at }
 {
     let token = next_token(text, at);
-    let many = bytes_of(text, token).len();
-    if 0 < many {
-        return Pos::Refused(Answer::TextAfter(token.start));
+    if !bytes_of(text, token).is_empty() {
+        return Err(Refusal::TextAfter(token.start));
     }
-    Pos::At(at)
+    Ok(at)
 }

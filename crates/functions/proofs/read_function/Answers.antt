@@ -1,57 +1,41 @@
-use Rattle.functions.proofs.FunctionLaws.{function_arity, function-scope, function-placed}
-use Rattle.scopes.proofs.ScopeLaws.{scope_known}
-use Rattle.placing.specs.Ties.Sheets.{draft_of}
-use Rattle.tokens.proofs.NumberLaws.{in_range}
+use Rattle.std.proofs.Common.{arith, rules, ◌≡◌, sym, ap, ◌∙◌, length, take, length-take-le}
+use Rattle.tokens.specs.Steps.{and_then}
 use Rattle.tokens.specs.Ties.Outcomes.{num_is, pos_is}
-use Rattle.tokens.specs.declared.words.Pos.{Pos}
-use lib.Seq.{length-take-le}
-use lib.ListN.{length, take}
-use native.Mathlib.Omega.{arith}
-use mathlib.Core.Path.{◌≡◌, sym, ◌∙◌, ap}
-use Prim.Native.Nat.{◌≤◌}
+use Rattle.tokens.proofs.NumberLaws.{in_range}
+use Rattle.scopes.proofs.ScopeLaws.{scope_known}
+use Rattle.functions.specs.Functions.{function}
 use Rattle.functions.proofs.read_function.Goals as goal
 
-pub returns-in-No : goal.returns-in-No
-returns-in-No c = let a = c.args in record {
-  work_after = sym (function_arity (draft_of a.o a.sizes.now a.scopes.now a.starts.now a.work.now) _ _ _ c.number_in.ensures _ c.in-No.is);
-  counted = tt;
-}
+pub read_scope-requires-clause-arity_le_arity_most : goal.read_scope-requires-clause-arity_le_arity_most
+read_scope-requires-clause-arity_le_arity_most c = let l = in_range _ _ _ _ _ _ (ap num_is (sym c.in_ok-found.was) ∙ c.number_in.ensures) in
+    (l.1, l.1, c.args.draft.now.few)
 
-pub read_scope-requires : goal.read_scope-requires
-read_scope-requires c = let l = in_range _ _ _ _ _ _ (ap num_is (sym c.in-Is.is) ∙ c.number_in.ensures) in
-    record {
-      ranged = c.requires.begun.ranged;
-      arity_le_arity_most = (l.1, l.1, c.requires.begun.few);
-    }
+pub returns-in_err-next : goal.returns-in_err-next
+unfolding function and_then
+returns-in_err-next c =
+    let s = c.args.draft.now in
+    let e : length (take s.entries s.table) ≡ s.entries = length-take-le _ _ (omega (arith, s.few, s.long)) in
+    rw (← c.number_in.ensures, c.in_ok-found.was, e, ← c.read_scope.ensures, c.in_err-next.was) (search rules)
 
-pub read_placed-requires : goal.read_placed-requires
-read_placed-requires c = let l = in_range _ _ _ _ _ _ (ap num_is (sym c.in-Is.is) ∙ c.number_in.ensures) in
-    let n = c.in-Is.x.value in
-    let w = c.read_scope.new.variables in
-    let h : n ≤ length w = omega (arith, l.1, c.read_scope.auto.variables) in
-    let e = length-take-le n w h in
-    let s = scope_known _ _ _ _ _ _ _ _ _ (ap (λ (r : Pos). pos_is r (take n w)) (sym c.in-At.is) ∙ c.read_scope.ensures) in
-    record {
-      begun = c.requires.begun;
-      told = record { few = l.1; there = h; known = s.known tt; room = λ two. s.room (omega arith) (omega (arith, e)) };
-      functions_lt_functions_most = c.requires.functions_lt_functions_most;
-    }
+pub slice_bounds-variables-end : goal.slice_bounds-variables-end
+slice_bounds-variables-end c = let l = in_range _ _ _ _ _ _ (ap num_is (sym c.in_ok-found.was) ∙ c.number_in.ensures) in
+    omega (arith, l.1, c.read_scope.auto.variables)
 
-pub returns-in-At : goal.returns-in-At
-returns-in-At c =
-    let a = c.args in
-    let entries_are : length (take a.o.entries a.work.now) ≡ a.o.entries = length-take-le _ _ (omega (arith, c.requires.begun.few)) in
-    let r = c.read_placed.ensures in
-    record {
-      work_after = r.work_after ∙ sym (function-placed (draft_of a.o a.sizes.now a.scopes.now a.starts.now a.work.now) _ _ _ c.number_in.ensures _ c.in-Is.is _ entries_are _ _ c.read_scope.ensures _ c.in-At.is);
-      counted = r.counted;
-    }
+pub slice_bounds-read_placed-end : goal.slice_bounds-read_placed-end
+slice_bounds-read_placed-end c = let l = in_range _ _ _ _ _ _ (ap num_is (sym c.in_ok-found.was) ∙ c.number_in.ensures) in
+    sym (length-take-le _ _ (omega (arith, l.1, c.read_scope.auto.variables)))
 
-pub returns-in-Refused : goal.returns-in-Refused
-returns-in-Refused c =
-    let a = c.args in
-    let entries_are : length (take a.o.entries a.work.now) ≡ a.o.entries = length-take-le _ _ (omega (arith, c.requires.begun.few)) in
-    record {
-      work_after = sym (function-scope (draft_of a.o a.sizes.now a.scopes.now a.starts.now a.work.now) _ _ _ c.number_in.ensures _ c.in-Is.is _ entries_are _ _ c.read_scope.ensures _ c.in-Refused.is);
-      counted = tt;
-    }
+pub read_placed-requires-clause-told : goal.read_placed-requires-clause-told
+read_placed-requires-clause-told c =
+    let l = in_range _ _ _ _ _ _ (ap num_is (sym c.in_ok-found.was) ∙ c.number_in.ensures) in
+    let n = c.in_ok-found.found.value in
+    let e = length-take-le n c.read_scope.new.variables (omega (arith, l.1, c.read_scope.auto.variables)) in
+    let s = scope_known _ _ _ _ _ _ _ _ _ (ap (λ r. pos_is r (take n c.read_scope.new.variables)) (sym c.in_ok-next.was) ∙ c.read_scope.ensures) in
+    record { few = omega (arith, e, l.1); known = s.known tt; room = λ two. s.room (omega (arith, e)) two }
+
+pub returns : goal.returns
+unfolding function and_then
+returns c =
+    let s = c.args.draft.now in
+    let e : length (take s.entries s.table) ≡ s.entries = length-take-le _ _ (omega (arith, s.few, s.long)) in
+    rw (← c.number_in.ensures, c.in_ok-found.was, e, ← c.read_scope.ensures, c.in_ok-next.was) c.read_placed.ensures

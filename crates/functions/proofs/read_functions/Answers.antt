@@ -1,43 +1,20 @@
-use Rattle.functions.proofs.FunctionLaws.{functions_stop, functions_more, functions_end, counted_to, begun_more}
-use native.Mathlib.Omega.{arith}
-use mathlib.Core.Path.{refl, sym, ◌∙◌}
-use Prim.Native.Nat.{◌-◌}
+use Rattle.std.proofs.Common.{arith, add-one, rules, ◌≡◌, ◌-◌, suc, sym, ap, ◌∙◌}
+use Rattle.tokens.specs.Steps.{and_then}
+use Rattle.tokens.specs.Ties.Outcomes.{pos_is}
+use Rattle.placing.specs.Ties.Sheets.{drafted}
+use Rattle.functions.specs.Functions.{functions}
+use Rattle.functions.proofs.FunctionLaws.{function_numbers}
 use Rattle.functions.proofs.read_functions.Goals as goal
 
-pub loop-left-init : goal.loop-left-init
-loop-left-init c = (c.requires.many_bound.1, c.requires.begun, c.requires.many_bound.0, refl)
+pub returns-in_err-next : goal.returns-in_err-next
+unfolding functions and_then
+returns-in_err-next c =
+    let left : c.args.many - c.loop.counter ≡ suc (c.args.many - suc c.loop.counter) = omega arith in
+    rw (c.loop.invariant.1, left, ← c.read_function.ensures, c.in_err-next.was) (search rules)
 
-pub read_function-requires : goal.read_function-requires
-read_function-requires c = record {
-  begun = c.loop-left.invariant.1;
-  functions_lt_functions_most = (omega arith, c.loop-left.invariant.0);
-}
-
-pub loop-left-smaller : goal.loop-left-smaller
-loop-left-smaller c = omega arith
-
-pub loop-left-preserved : goal.loop-left-preserved
-loop-left-preserved c =
-    let n = counted_to c.loop-left.o _ _ _ c.in-To.is c.read_function.ensures.counted in (
-      c.read_function.auto.work ∙ c.loop-left.invariant.0,
-      begun_more _ _ _ c.loop-left.invariant.1 n.0 n.1 n.2,
-      omega (arith, n.3),
-      c.loop-left.invariant.3 ∙ functions_more c.loop-left.left (c.loop-left.left - 1) _ _ _ (omega arith) _ _ _ _ _ c.read_function.ensures.work_after _ _ c.in-To.is,
-    )
-
-pub returns-in-Refused : goal.returns-in-Refused
-returns-in-Refused c =
-    record {
-      work_after = sym (c.loop-left.invariant.3 ∙ functions_stop c.loop-left.left (c.loop-left.left - 1) _ _ _ (omega arith) _ _ _ _ _ c.read_function.ensures.work_after _ c.in-Refused.is);
-      counted_in = tt;
-    }
-
-pub shape_of-work : goal.shape_of-work
-shape_of-work c = c.loop-left.invariant.0 ∙ sym c.requires.many_bound.1
-
-pub returns : goal.returns
-returns c =
-    record {
-      work_after = sym (c.loop-left.invariant.3 ∙ functions_end c.loop-left.left _ _ _ (omega arith));
-      counted_in = c.loop-left.invariant.1.few;
-    }
+pub loop-preserved : goal.loop-preserved
+unfolding functions and_then
+loop-preserved c =
+    let left : c.args.many - c.loop.counter ≡ suc (c.args.many - suc c.loop.counter) = omega arith in
+    let one = function_numbers _ _ _ _ _ (ap (λ r. pos_is r (drafted c.read_function.new.draft)) (sym c.in_ok-next.was) ∙ c.read_function.ensures) in
+    (omega (arith, one, c.loop.invariant.0), rw (c.loop.invariant.1, left, add-one, ← c.read_function.ensures, c.in_ok-next.was))

@@ -1,5 +1,5 @@
+use Rattle.std.proofs.Common.{sym}
 use lib.Seq.{set_out}
-use mathlib.Core.Path.{sym}
 use Rattle.listed_costs.proofs.put_cell.Goals as goal
 
 pub returns-else-i-cells : goal.returns-else-i-cells

@@ -1,25 +1,19 @@
-use Rattle.listed_costs.specs.Listed.{value}
-use Rattle.tokens.specs.Steps.{and_then, demand}
-use native.Mathlib.Omega.{arith}
-use borrow.Author.Tests.{lt-ltb, le-ltb, eq-eqb, ne_eqb}
+use Rattle.std.proofs.Common.{◌≡◌, ◌+◌, ◌*◌, true, eqb, ltb, get_or, rules, tests}
+use Rattle.tokens.specs.Steps.{and_then, demand, at_last}
+use Rattle.listed_costs.specs.Listed.{unlisted, value}
+use Rattle.listed_costs.proofs.read_value.Goals.{else-left-eq0-via-then-left-eq0+else-cell_at, else-left-eq0-via-else-left-eq0}
 use Rattle.listed_costs.proofs.read_value.Goals as goal
-
-pub returns-in-No : goal.returns-in-No
-unfolding value and_then demand
-returns-in-No c = rw (← c.any_number.ensures, c.in-No.is)
-
-pub returns-then-d-a : goal.returns-then-d-a
-unfolding value and_then demand
-returns-then-d-a c = rw (← c.any_number.ensures, c.in-Is.is, le-ltb c.in-Is.a.value c.args.d (omega arith))
-
-pub returns-then-left-gt0 : goal.returns-then-left-gt0
-unfolding value and_then demand
-returns-then-left-gt0 c = rw (← c.any_number.ensures, c.in-Is.is, lt-ltb _ _ c.if-d-a.false, lt-ltb _ _ c.if-left-gt0.true)
 
 pub returns-then-cell_at : goal.returns-then-cell_at
 unfolding value and_then demand
-returns-then-cell_at c = rw (← c.any_number.ensures, c.in-Is.is, lt-ltb _ _ c.if-d-a.false, le-ltb _ _ c.if-left-gt0.false, ← c.cell_at.ensures, ne_eqb _ _ c.if-cell_at.true)
+returns-then-cell_at c = rw (← c.any_number.ensures, c.in_ok-a.was, c.if-left-eq0.true, ← c.cell_at.ensures) (search (tests, rules))
 
 pub returns : goal.returns
 unfolding value and_then demand
-returns c = rw (← c.any_number.ensures, c.in-Is.is, lt-ltb _ _ c.if-d-a.false, le-ltb _ _ c.if-left-gt0.false, ← c.cell_at.ensures, eq-eqb _ _ c.if-cell_at.false)
+returns c =
+    let below : ltb c.in_ok-a.a.value c.args.d ≡ true = search (tests, rules) in
+    let new : at_last c.args.left (eqb (get_or c.args.cells.now (c.args.before * c.args.d + c.in_ok-a.a.value) 0) unlisted) ≡ true = elim c.else-left-eq0.branch [
+      | else-left-eq0-via-then-left-eq0+else-cell_at w ↦ rw (← w.cell_at.ensures) (search (tests, rules))
+      | else-left-eq0-via-else-left-eq0 w ↦ search (tests, rules)
+    ] in
+    rw (← c.any_number.ensures, c.in_ok-a.was, below, new)

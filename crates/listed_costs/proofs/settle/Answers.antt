@@ -1,31 +1,18 @@
+use Rattle.std.proofs.Common.{◌∙◌, rules, tests, arith}
 use Rattle.stretches.proofs.MapLaws.{reached_none, reached_more, reached_map}
-use lib.ListN.{length-set}
-use native.Mathlib.Omega.{arith}
-use mathlib.Core.Path.{refl, ◌∙◌}
+use Rattle.listed_costs.specs.Listed.{settled}
+use Rattle.listed_costs.proofs.settle.Goals.{then-cell, else-cell}
 use Rattle.listed_costs.proofs.settle.Goals as goal
 
-pub loop-i-init : goal.loop-i-init
-loop-i-init c = (refl, omega arith, reached_none _ _)
+pub loop-cell-init : goal.loop-cell-init
+loop-cell-init c = reached_none _ _
 
-pub bounds-cells-i : goal.bounds-cells-i
-bounds-cells-i c = omega arith
-
-pub bounds-cells-i-in-loop-i : goal.bounds-cells-i-in-loop-i
-bounds-cells-i-in-loop-i c = omega arith
-
-pub overflow_add-i : goal.overflow_add-i
-overflow_add-i c = omega arith
-
-pub loop-i-smaller : goal.loop-i-smaller
-loop-i-smaller c = omega arith
-
-pub loop-i-preserved : goal.loop-i-preserved
-loop-i-preserved c =
-    (simp length-set c.loop-i.invariant.0, omega arith, reached_more _ _ _ _ _ c.loop-i.invariant.2 c.settled_cost.ensures (omega arith))
-
-pub shape_of-cells : goal.shape_of-cells
-shape_of-cells c = c.loop-i.invariant.0
+pub loop-cell-preserved : goal.loop-cell-preserved
+unfolding settled
+loop-cell-preserved c = elim c.if-cell.branch [
+  | then-cell w ↦ w.cells-is ∙ reached_more _ _ _ _ _ c.loop-cell.invariant (search (tests, rules)) c.loop-cell-test.true
+  | else-cell w ↦ w.cells-is ∙ reached_more _ _ _ _ _ c.loop-cell.invariant (search (tests, rules)) c.loop-cell-test.true
+]
 
 pub returns : goal.returns
-returns c =
-    c.loop-i.invariant.2 ∙ reached_map _ _ _ (omega arith)
+returns c = c.loop-cell.invariant ∙ reached_map _ _ _ (omega arith)

@@ -1,9 +1,8 @@
--- Ties: what the code's answer says, as the outcome of a step of reading.
-use Rattle.std.specs.Prelude.{ℕ}
+-- Ties: what the code's result says, as the outcome of a step of reading.
+use Rattle.std.specs.Prelude.{ℕ, Result, Ok, Err}
+use Rattle.answers.specs.declared.Refusal.{Refusal}
 use Rattle.tokens.specs.Steps.{Got, got, refused}
-use Rattle.listed_costs.specs.declared.Tuple.{Tuple}
-use Rattle.listed_costs.specs.declared.Tuple.TheVariants.{Is, No}
 
-abbrev pub tuple_is : Tuple → Got ℕ
-tuple_is (Is entry) = got entry.index entry.next
-tuple_is (No answer) = refused answer
+abbrev pub tuple_is : Result (ℕ × ℕ) Refusal → Got ℕ
+tuple_is (Ok read) = got read.0 read.1
+tuple_is (Err refusal) = refused refusal

@@ -1,13 +1,13 @@
-use Rattle.soft_sums.specs.Soft.{values_at, total}
-use Rattle.stretches.specs.Sizes.{product}
+use Rattle.std.proofs.Common.{◌≡◌, ◌-◌, ◌*◌, ◌/◌, ◌≤◌, length, drop}
 use Rattle.costs.specs.Limits.{size_most}
-use lib.ListN.{length, drop}
-use mathlib.Core.Path.{◌≡◌}
-use Prim.Native.Nat.{◌+◌, ◌*◌, ◌/◌, ◌≤◌}
+use Rattle.stretches.specs.Sizes.{product}
+use Rattle.soft_sums.specs.Soft.{values_at, total}
 use Rattle.soft_sums.proofs.sum_at.Given as goal
 
-abbrev pub invariant-loop-j : goal.invariant-loop-j
-invariant-loop-j l = (l.j ≤ length l.ds) × (l.sum + l.j * size_most ≤ length l.ds * size_most) × (l.rest ≡ l.entry / product (drop l.j l.ds)) × (l.sum ≡ total (values_at (drop l.j l.ds) l.entry))
-
-abbrev pub decreases-loop-j : goal.decreases-loop-j
-decreases-loop-j l = l.j
+abbrev pub invariant-loop-d : goal.invariant-loop-d
+invariant-loop-d l = record {
+  goes : (goal.iterator-loop-d).can_next l.d-iterator × (goal.iterator-loop-d).is_finite l.d-iterator;
+  few : l.sum ≤ length l.yielded * size_most;
+  over : l.rest ≡ l.entry / product (drop (length l.ds.sizes.now - length l.yielded) l.ds.sizes.now);
+  so_far : l.sum ≡ total (values_at (drop (length l.ds.sizes.now - length l.yielded) l.ds.sizes.now) l.entry);
+}

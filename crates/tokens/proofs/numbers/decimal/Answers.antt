@@ -1,40 +1,27 @@
-use Rattle.tokens.proofs.DigitLaws.{short, long, fair, digit_low, digit_high, digit_more, digits_end, ten_more, ten_room}
-use lib.Dec.{lit<}
-use native.Mathlib.Omega.{arith}
-use mathlib.Core.Path.{◌∙◌}
+use Rattle.std.proofs.Common.{lit<, arith, rules, tests, sym, ◌∙◌}
+use Rattle.tokens.proofs.DigitLaws.{fair, digits_stop, digits_more, digits_end, ten_more, ten_room}
 use Rattle.tokens.proofs.numbers.decimal.Goals as goal
 
-pub returns-then-w-lt1 : goal.returns-then-w-lt1
-returns-then-w-lt1 c = short _ c.if-w-lt1.true
+pub loop-b-init : goal.loop-b-init
+loop-b-init c = record { fits = lit< tt; so_far = fair _ (search (tests, rules)) (search (tests, rules)) }
 
-pub returns-then-w-gt-DIGITS : goal.returns-then-w-gt-DIGITS
-returns-then-w-gt-DIGITS c = long _ (omega arith)
-
-pub loop-i-init : goal.loop-i-init
-loop-i-init c = (omega arith, lit< tt, fair _ (omega arith) (omega arith))
-
-pub returns-then-b-lt48 : goal.returns-then-b-lt48
-returns-then-b-lt48 c =
-    cc (digit_low c.args.w.now c.loop-i.i c.loop-i.v (omega arith) c.if-b-lt48.true)
-
-pub returns-then-b-gt57 : goal.returns-then-b-gt57
-returns-then-b-gt57 c =
-    cc (digit_high c.args.w.now c.loop-i.i c.loop-i.v (omega arith) c.if-b-lt48.false c.if-b-gt57.true)
+pub returns-then-not-is_ascii_digit : goal.returns-then-not-is_ascii_digit
+returns-then-not-is_ascii_digit c =
+    sym (c.loop-b.invariant.so_far ∙ digits_stop _ _ _ c.loop-b-test.true (sym c.is_ascii_digit.ensures.value ∙ c.if-not-is_ascii_digit.true))
 
 -- the value has room for one digit more
 pub overflow_mul-v : goal.overflow_mul-v
-overflow_mul-v c = omega (arith, ten_room c.loop-i.v c.loop-i.i (omega arith) c.loop-i.invariant.1)
+overflow_mul-v c = omega (arith, ten_room c.loop-b.v c.loop-b.b-index (search (tests, rules)) c.loop-b.invariant.fits)
 
 pub overflow_add-v : goal.overflow_add-v
-overflow_add-v c = omega (arith, ten_room c.loop-i.v c.loop-i.i (omega arith) c.loop-i.invariant.1)
+overflow_add-v c = omega (arith, ten_room c.loop-b.v c.loop-b.b-index (search (tests, rules)) c.loop-b.invariant.fits)
 
-pub loop-i-preserved : goal.loop-i-preserved
-loop-i-preserved c = (
-  omega arith,
-  ten_more c.loop-i.v _ c.loop-i.i (omega arith) c.loop-i.invariant.1,
-  c.loop-i.invariant.2 ∙ digit_more _ c.loop-i.i c.loop-i.v (omega arith) c.if-b-lt48.false c.if-b-gt57.false,
-)
+pub loop-b-preserved : goal.loop-b-preserved
+loop-b-preserved c = record {
+  fits = ten_more c.loop-b.v _ c.loop-b.b-index (search (tests, rules)) c.loop-b.invariant.fits;
+  so_far = rw c.from.ensures
+      (c.loop-b.invariant.so_far ∙ digits_more _ _ _ c.loop-b-test.true (sym c.is_ascii_digit.ensures.value ∙ c.if-not-is_ascii_digit.false));
+}
 
 pub returns : goal.returns
-returns c =
-    cc (digits_end c.args.w.now c.loop-i.i c.loop-i.v (omega arith))
+returns c = sym (c.loop-b.invariant.so_far ∙ digits_end _ _ _ c.loop-b-test.false)
