@@ -1,24 +1,13 @@
 -- The public call `pass`: when it succeeds, and demand 2 for it. Its promise is `leaves r after ≡ pass_leaves net held work node`. Assumes nothing.
-use Prim.Native.Nat.{ℕ, ◌<◌, min}
-use mathlib.Core.Path.{◌≡◌, refl, sym, ap, ◌∙◌}
-use mathlib.Core.Bool.{Bool, true, false}
-use mathlib.Core.List.{List}
-use native.Mathlib.Omega.{arith}
-use lib.Dec.{T}
-use lib.ListN.{length}
-use borrow.Author.Tests.{lt-ltb, le-ltb}
-use Rattle.answers.specs.declared.Answer.TheVariants.{Done}
-use Rattle.answers.specs.Answers.{number_of}
+use Rattle.std.proofs.Common.{Ok, Err, ℕ, ◌<◌, min, ◌≡◌, refl, sym, ap, ◌∙◌, Bool, true, false, List, arith, T, length, lt-ltb, le-ltb}
+use Rattle.answers.specs.Answers.{Done, number_of}
 use Rattle.costs.specs.declared.networks.Network.{Network}
-use Rattle.costs.specs.declared.networks.Outline.{Outline}
 use Rattle.costs.specs.Net.{Net, Costs, costs_of, entries}
-use Rattle.costs.specs.Networks.{stands}
+use Rattle.costs.specs.Networks.{Outline, stands}
 use Rattle.costs.proofs.TestLaws.{is_true}
 use Rattle.costs.proofs.NetLaws.{price_below}
-use Rattle.judging.specs.declared.Judged.{Judged}
-use Rattle.judging.specs.declared.Judged.TheVariants.{Fit, Refused}
 use Rattle.judging.specs.declared.Unfit.TheVariants.{NoNetwork, TooShort}
-use Rattle.judging.specs.Judging.{judged, Lent}
+use Rattle.judging.specs.Judging.{judged, Lent, Judgement}
 use Rattle.judging.proofs.JudgeLaws.{lent_fit, fit_lent, network_sound}
 use Rattle.shifts.specs.declared.nodes.Node.{Node}
 use Rattle.shifts.specs.declared.outcomes.Outcome.{Outcome}
@@ -51,12 +40,12 @@ module _ (net : Network) (held work : List ℕ) (node : Node) where
   unfolding pass_leaves
   leaves-may e = go (judged net held (min (length held) (length work))) (node_legal net node) (fit_lent net held (length work)) (by_node net node).says (ap number_of e)
     where
-      go : (j : Judged) (b : Bool) → ((o : Outline) → Fit o ≡ j → Lent net held (length work)) → (T b → IsNode n live)
+      go : (j : Judgement) (b : Bool) → ((o : Outline) → Ok o ≡ j → Lent net held (length work)) → (T b → IsNode n live)
           → number_of (settled j b (record { answer = Done; costs = left }) zeros).answer ≡ 0 → MayPass net held work node
-      go (Fit o) true f g e = record { lent = f o refl; node_is_legal = g tt }
-      go (Fit o) false f g e = absurd (omega arith)
-      go (Refused NoNetwork) b f g e = absurd (omega arith)
-      go (Refused TooShort) b f g e = absurd (omega arith)
+      go (Ok o) true f g e = record { lent = f o refl; node_is_legal = g tt }
+      go (Ok o) false f g e = absurd (omega arith)
+      go (Err NoNetwork) b f g e = absurd (omega arith)
+      go (Err TooShort) b f g e = absurd (omega arith)
 
   -- below E the worked costs are left
   left_at : (j : ℕ) → j < entries n → left.at j ≡ (passed net held node).at j

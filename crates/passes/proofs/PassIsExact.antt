@@ -1,15 +1,8 @@
 -- At a node where every variable is fixed, the pass's constant is the price of its plan. After the projections the plan touches no function cost above 0,
 -- and after the raises no unary cost, unless a cost of k stands in the way: and that reaches the constant. Assumes nothing.
-use Prim.Native.Nat.{ℕ, zero, suc, ◌+◌, ◌-◌, ◌*◌, ◌/◌, ◌%◌, ◌≤◌, ◌<◌, min}
-use mathlib.Core.Path.{◌≡◌, refl, sym, ap, ◌∙◌}
-use mathlib.Core.Bool.{Bool, true, false, cond}
-use mathlib.Core.Logic.{◌⊎◌, inl, inr, ⊎_elim, ◌≢◌}
-use mathlib.Core.List.{List, [], ◌∷◌}
-use native.Mathlib.Omega.{arith}
-use native.Mathlib.Nat.{mod-lt, div-add-mod', mul-zero}
-use native.Mathlib.Decide.{ℕ_discrete, dec_lt}
-use lib.Dec.{T, eqb, eqb→eq, eqb_refl}
-use lib.ListN.{length}
+use Rattle.std.proofs.Common.{ℕ, zero, suc, ◌+◌, ◌-◌, ◌*◌, ◌/◌, ◌%◌, ◌≤◌, ◌<◌, min, ◌≡◌, refl, sym, ap, ◌∙◌, Bool, true, false, cond, ◌⊎◌, inl, inr, ⊎_elim, ◌≢◌, List, [], ◌∷◌, arith, mod-lt, div-add-mod', mul-zero, T, eqb, eqb→eq, length}
+use Rattle.std.proofs.Math.Decide.{ℕ_discrete, dec_lt}
+use Rattle.std.proofs.Math.Dec.{eqb_refl}
 use Rattle.costs.specs.Cost.{plus, minus}
 use Rattle.costs.specs.Range.{sum_to}
 use Rattle.costs.specs.Net.{Net, Costs, Sound, All, tuples, entry, start, touched, price}

@@ -1,10 +1,5 @@
 -- The pass's shifts are each legal in their turn and lead to its costs; its constant stays at most k. Assumes nothing.
-use Prim.Native.Nat.{ℕ, zero, suc, ◌+◌, ◌-◌, ◌≤◌, ◌<◌}
-use mathlib.Core.Path.{◌≡◌, refl}
-use mathlib.Core.Bool.{Bool, true, false, cond}
-use mathlib.Core.List.{List, [], ◌∷◌, ◌++◌}
-use native.Mathlib.Omega.{arith}
-use lib.Dec.{T}
+use Rattle.std.proofs.Common.{ℕ, zero, suc, ◌+◌, ◌-◌, ◌≤◌, ◌<◌, ◌≡◌, refl, Bool, true, false, cond, List, [], ◌∷◌, ◌++◌, arith, T}
 use Rattle.costs.specs.Net.{Net, Costs, Sound, All, price}
 use Rattle.costs.specs.Tests.{among}
 use Rattle.boxes.proofs.LoopLaws.{each_keeps}

@@ -1,14 +1,8 @@
 -- How many shifts a pass makes at most: one for each value of each place of a scope, and one for each variable. Assumes nothing.
-use Prim.Native.Nat.{ℕ, zero, suc, ◌+◌, ◌-◌, ◌*◌, ◌≤◌, ◌<◌}
-use mathlib.Core.Bool.{Bool}
-use mathlib.Core.List.{List, [], ◌∷◌}
-use native.Mathlib.Omega.{arith}
-use native.Mathlib.Nat.{suc-mul, mul-le-mul}
-use lib.ListN.{length, length-append}
+use Rattle.std.proofs.Common.{ℕ, zero, suc, ◌+◌, ◌-◌, ◌*◌, ◌≤◌, ◌<◌, Bool, List, [], ◌∷◌, arith, suc-mul, mul-le-mul, length, length-append}
 use Rattle.costs.specs.Limits.{vars_most, size_most, functions_most, arity_most}
 use Rattle.costs.specs.Net.{Net, Costs, Sound, All}
-use Rattle.costs.specs.Networks.{net_of, in_row, scope_in, Scoped}
-use Rattle.costs.specs.declared.networks.Outline.{Outline}
+use Rattle.costs.specs.Networks.{Outline, net_of, in_row, Scoped}
 use Rattle.costs.proofs.NetLaws.{All-map}
 use Rattle.costs.proofs.RowLaws.{scope_all, scoped_sound}
 use Rattle.boxes.specs.Loops.{each_to}
@@ -16,6 +10,7 @@ use Rattle.boxes.proofs.LoopLaws.{each_adds}
 use Rattle.shifts.specs.declared.moves.Move.{Move}
 use Rattle.shifts.specs.declared.moves.Move.TheVariants.{Project, Raise}
 use Rattle.shifts.specs.Nodes.{fixing, least}
+use Rattle.shifts.proofs.PartLaws.{scope_long as scope_arity}
 use Rattle.passes.specs.Passing.{Work, shift_by, at_value, at_scope, projections, at_variable, pass, Within}
 use Rattle.passes.proofs.PassIsLegal.{choose}
 
@@ -54,23 +49,13 @@ pass_length N S F A n good limits live held =
       mul-le-mul {n₁ = length (n.scope (n.vars + f))} {m₁ = S} {n₂ = A} {m₂ = S} (limits.arity (n.vars + f) l) (omega arith),
     )
 
-scope_short : (row : ℕ → ℕ) → row 0 ≤ 3 → length (scope_in row) ≤ 3
-scope_short row h = go (row 0)
-  where
-    go : (arity : ℕ) → length (lib.ListN.take arity (row 1 ∷ row 2 ∷ row 3 ∷ [])) ≤ 3
-    go zero = omega arith
-    go (suc zero) = omega arith
-    go (suc (suc zero)) = omega arith
-    go (suc (suc (suc zero))) = omega arith
-    go (suc (suc (suc (suc arity)))) = omega arith
-
 -- the judged numbers are within document 01's limits
 pub scoped_within : (o : Outline) (sizes rows : List ℕ) → Scoped o.vars o.functions sizes rows → Within vars_most size_most functions_most arity_most (net_of o sizes rows)
 scoped_within o sizes rows r = record {
   vars = r.vars_few;
   sizes = r.small;
   functions = omega (arith, r.functions_few);
-  arity = scope_all (λ vs. length vs ≤ 3) o.vars o.functions rows (λ v l. omega arith) (λ f l. scope_short (in_row rows f) (r.arity_at_most f l));
+  arity = scope_all (λ vs. length vs ≤ 3) o.vars o.functions rows (λ v l. omega arith) (λ f l. omega (arith, scope_arity (in_row rows f) (r.arity_at_most f l), r.arity_at_most f l));
 }
 
 pub pass_length_01 : (o : Outline) (sizes rows : List ℕ) → Scoped o.vars o.functions sizes rows → (live : ℕ → ℕ → Bool) (held : Costs)

@@ -1,12 +1,5 @@
 -- The pass neither looks at nor changes table entries past E: done beside other entries there, it does the same. Assumes nothing.
-use Prim.Native.Nat.{ℕ, zero, suc, ◌+◌, ◌-◌, ◌≤◌, ◌<◌}
-use mathlib.Core.Path.{◌≡◌, refl, ap, ◌∙◌}
-use mathlib.Core.Bool.{Bool, true, false, cond}
-use mathlib.Core.List.{List, [], ◌∷◌, ◌++◌}
-use native.Mathlib.Omega.{arith}
-use lib.Dec.{ltb, lt→ltb}
-use lib.ListN.{get_or}
-use borrow.Author.Tests.{ltb-false}
+use Rattle.std.proofs.Common.{ℕ, zero, suc, ◌+◌, ◌-◌, ◌≤◌, ◌<◌, ◌≡◌, refl, ap, ◌∙◌, Bool, true, false, cond, List, [], ◌∷◌, ◌++◌, arith, ltb, lt→ltb, get_or, ltb-false}
 use Rattle.costs.specs.Cost.{plus, minus}
 use Rattle.costs.specs.Net.{Net, Costs, Sound, All, tuples, start, entries}
 use Rattle.costs.proofs.TestLaws.{is_true}

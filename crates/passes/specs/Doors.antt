@@ -1,6 +1,6 @@
 -- What `pass` hands back, and what the lent table holds after it.
 use Rattle.std.specs.Prelude.{ℕ, min, cond, List, ltb, length, get_or}
-use Rattle.answers.specs.declared.Answer.TheVariants.{Done}
+use Rattle.answers.specs.Answers.{Done}
 use Rattle.costs.specs.declared.networks.Network.{Network}
 use Rattle.costs.specs.Net.{Costs, costs_of, entries}
 use Rattle.costs.specs.Networks.{stands}

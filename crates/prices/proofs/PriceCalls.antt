@@ -1,25 +1,16 @@
 -- The public call `price`, whose promise is `r ≡ priced net t plan`: when it succeeds, that "the price is the capped sum", and where the plan broke. Assumes nothing.
-use Prim.Native.Nat.{ℕ, ◌+◌, ◌≤◌, min}
-use mathlib.Core.Path.{◌≡◌, refl, sym, ap, ◌∙◌, subst}
-use mathlib.Core.Bool.{Bool, true, false, not, cond}
-use mathlib.Core.List.{List}
-use native.Mathlib.Omega.{arith}
-use lib.Dec.{ltb, eqb}
-use lib.ListN.{length, get_or}
-use borrow.Author.Tests.{eqb-true, ltb-false, lt-ltb, le-ltb, eq-eqb}
-use Rattle.answers.specs.declared.Answer.TheVariants.{Done, BadPlan}
-use Rattle.answers.specs.Answers.{number_of}
+use Rattle.std.proofs.Common.{Result, Ok, Err, ℕ, ◌+◌, ◌≤◌, min, ◌≡◌, refl, sym, ap, ◌∙◌, subst, Bool, true, false, not, cond, List, arith, ltb, eqb, length, get_or, eqb-true, ltb-false, lt-ltb, le-ltb, eq-eqb}
+use Rattle.answers.specs.Answers.{Done, number_of}
+use Rattle.answers.specs.declared.Refusal.TheVariants.{BadPlan}
 use Rattle.costs.specs.declared.networks.Network.{Network}
-use Rattle.costs.specs.declared.networks.Outline.{Outline}
 use Rattle.costs.specs.declared.plans.Plan.{Plan}
 use Rattle.costs.specs.Range.{sum_to}
 use Rattle.costs.specs.Net.{Net, Costs, costs_of, touched, price}
-use Rattle.costs.specs.Networks.{stands}
+use Rattle.costs.specs.Networks.{Outline, stands}
 use Rattle.costs.specs.Cheapest.{value_in}
 use Rattle.costs.proofs.RangeLaws.{first_to_none}
 use Rattle.costs.proofs.NetLaws.{price_capped}
-use Rattle.judging.specs.declared.Judged.{Judged}
-use Rattle.judging.specs.declared.Judged.TheVariants.{Fit, Refused}
+use Rattle.judging.specs.declared.Unfit.{Unfit}
 use Rattle.judging.specs.declared.Unfit.TheVariants.{NoNetwork, TooShort}
 use Rattle.judging.specs.Judging.{judged}
 use Rattle.judging.proofs.JudgeLaws.{judged-passed, Passed, network_fit}
@@ -46,8 +37,8 @@ module _ (net : Network) (t : List ℕ) (plan : Plan) where
   choice = value_in plan.choice
 
   -- what is answered, by the judge, whether the length is right and whether a value is bad
-  abbrev answered : Judged → Bool → Bool → Priced
-  answered j sized valued = after_judge j (cond sized (cond valued (refused_price (BadPlan bad)) (plan_price n held choice)) (refused_price (BadPlan 0)))
+  abbrev answered : Result Outline Unfit → Bool → Bool → Priced
+  answered j sized valued = after_judge j (cond sized (cond valued (refused_price (Err (BadPlan bad))) (plan_price n held choice)) (refused_price (Err (BadPlan 0))))
 
   may-priced : MayPrice net t plan → priced net t plan ≡ plan_price n held choice
   unfolding priced plan_priced
@@ -59,24 +50,24 @@ module _ (net : Network) (t : List ℕ) (plan : Plan) where
   unfolding priced plan_priced
   priced-may e = go (judged net t (length t)) (eqb plan.len net.vars) (ltb bad net.vars) (judged-passed net t (length t)) (eqb-true plan.len net.vars) (ltb-false bad net.vars) (ap number_of e)
     where
-      go : (j : Judged) (a b : Bool) → ((o : Outline) → Fit o ≡ j → Passed net t (length t) o) → (a ≡ true → plan.len ≡ net.vars) → (b ≡ false → net.vars ≤ bad) → number_of (answered j a b).answer ≡ 0 → MayPrice net t plan
-      go (Fit o) true false f g h e =
+      go : (j : Result Outline Unfit) (a b : Bool) → ((o : Outline) → Ok o ≡ j → Passed net t (length t) o) → (a ≡ true → plan.len ≡ net.vars) → (b ≡ false → net.vars ≤ bad) → number_of (answered j a b).answer ≡ 0 → MayPrice net t plan
+      go (Ok o) true false f g h e =
           let passed = f o refl in
           record { network = passed.network; whole = passed.roomy; sized = g refl; values = record { range = none_bad net.vars net.sizes plan.choice (h refl) } }
-      go (Fit o) true true f g h e = absurd (omega arith)
-      go (Fit o) false b f g h e = absurd (omega arith)
-      go (Refused NoNetwork) a b f g h e = absurd (omega arith)
-      go (Refused TooShort) a b f g h e = absurd (omega arith)
+      go (Ok o) true true f g h e = absurd (omega arith)
+      go (Ok o) false b f g h e = absurd (omega arith)
+      go (Err NoNetwork) a b f g h e = absurd (omega arith)
+      go (Err TooShort) a b f g h e = absurd (omega arith)
 
   refused_priced : ((priced net t plan).answer ≡ Done → ⊥) → priced net t plan ≡ refused_price (priced net t plan).answer
   unfolding priced plan_priced
   refused_priced d = go (judged net t (length t)) (eqb plan.len net.vars) (ltb bad net.vars) d
     where
-      go : (j : Judged) (a b : Bool) → ((answered j a b).answer ≡ Done → ⊥) → answered j a b ≡ refused_price (answered j a b).answer
-      go (Fit o) true false d = absurd (d refl)
-      go (Fit o) true true d = refl
-      go (Fit o) false b d = refl
-      go (Refused why) a b d = refl
+      go : (j : Result Outline Unfit) (a b : Bool) → ((answered j a b).answer ≡ Done → ⊥) → answered j a b ≡ refused_price (answered j a b).answer
+      go (Ok o) true false d = absurd (d refl)
+      go (Ok o) true true d = refl
+      go (Ok o) false b d = refl
+      go (Err why) a b d = refl
 
   module _ (r : Priced) (promise : r ≡ priced net t plan) where
     -- the answer is Done exactly where nothing stands against the price

@@ -6,7 +6,7 @@ use crate::breaks::Break;
 use costs::capped::plus_of;
 
 // What the costs so far come to, and where they broke.
-#[derive(Clone, Copy)]
+#[derive(Clone, Copy, Debug, PartialEq, Eq)]
 pub struct Sum {
     pub price: u64,
     pub broke: Break,
@@ -16,10 +16,9 @@ pub fn begun(top: u64, constant: u64) -> Sum
     ensures { result ≡ begun_with top constant }
 {
     let price = plus_of(top, 0, constant);
-    let broke = named(top, price, Break::Constant);
     Sum {
-        price: price,
-        broke: broke,
+        price,
+        broke: named(top, price, Break::Constant),
     }
 }
 
@@ -34,18 +33,12 @@ pub fn added(top: u64, sum: Sum, cost: u64, part: Break) -> Sum
     } else {
         named(top, price, part)
     };
-    Sum {
-        price: price,
-        broke: broke,
-    }
+    Sum { price, broke }
 }
 
 // The part, where the sum with its cost reaches the bound.
 fn named(top: u64, price: u64, part: Break) -> Break
     ensures { result ≡ named_at top price part }
 {
-    if top <= price {
-        return part;
-    }
-    Break::Nowhere
+    if top <= price { part } else { Break::Nowhere }
 }

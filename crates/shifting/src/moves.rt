@@ -1,38 +1,26 @@
 // The shifts of cost: when each is legal, and what it moves.
 ghost use Rattle.std.specs.Prelude.{◌≤◌, ◌<◌, ◌≡◌, ◌&&◌, ltb, length};
 ghost use Rattle.costs.specs.Limits.{vars_most, functions_most, arity_most};
-ghost use Rattle.costs.specs.Networks.{in_row, scope_in, net_of, Scoped};
+ghost use Rattle.costs.specs.Net.{entries};
+ghost use Rattle.costs.specs.Networks.{in_row, scope_in};
 ghost use Rattle.costs.specs.Tests.{between, among};
 ghost use Rattle.shifts.specs.declared.moves.Move.TheVariants.{Project, Extend, Raise};
-ghost use Rattle.shifts.specs.Nodes.{live_in};
 ghost use Rattle.shifts.specs.Moves.{joins};
-ghost use Rattle.shifts.specs.Ties.Parts.{Laid};
 ghost use Rattle.shifts.specs.Doors.{leaves, tried};
+ghost use Rattle.shifts.specs.Ties.Outcomes.{told};
+ghost use Rattle.shifts.specs.Ties.Sites.{net_at, lives};
 
-use answers::Answer;
-use boxes::{change_block, change_one, change_row, least_block, least_row};
+use answers::Refusal;
+use boxes::{Change, change_block, change_one, change_row, least_block, least_row};
 use costs::capped::plus_of;
-use costs::limits::{FUNCTIONS, ROWS, VARS};
-use costs::networks::{Outline, byte_at, row_at};
-use shifts::blocks::{function_block, unary_start};
+use costs::networks::Network;
 use shifts::moves::Move;
-use shifts::outcomes::{Outcome, refused};
-use shifts::parts::live_span;
+use shifts::sites::Site;
 
-// The shift is made where it is legal; where it is not, nothing moves.
-pub fn try_shift<'a>(
-    table: &mut [u64],
-    sizes: &'a [u8; VARS],
-    scopes: &'a [u8; ROWS],
-    starts: &'a [usize; FUNCTIONS],
-    firsts: &'a [usize; VARS],
-    node: &'a [u8; VARS],
-    o: Outline,
-    constant: u64,
-    one: Move,
-) -> Outcome
-    requires { Laid o sizes.now scopes.now starts.now firsts.now node.now (length table.old) }
-    ensures { leaves result table.new ≡ tried (net_of o sizes.now scopes.now) (live_in sizes.now node.now) one constant table.old }
+// The shift is made where it is legal, and the constant after it handed back; where it is not, nothing moves.
+pub fn try_shift(table: &mut [u64], site: Site, constant: u64, one: Move) -> Result<u64, Refusal>
+    requires { entries (net_at site) ≤ length table.old }
+    ensures { leaves (told result) table.new ≡ tried (net_at site.entry) (lives site.entry) one constant table.old }
 {
     match one {
         Move::Project {
@@ -40,214 +28,124 @@ pub fn try_shift<'a>(
             variable,
             value,
             amount,
-        } => project(
-            table, sizes, scopes, starts, firsts, node, o, constant, function, variable, value,
-            amount,
-        ),
+        } => project(table, site, constant, function, variable, value, amount),
         Move::Extend {
             function,
             variable,
             value,
             amount,
-        } => extend(
-            table, sizes, scopes, starts, firsts, node, o, constant, function, variable, value,
-            amount,
-        ),
-        Move::Raise { variable, amount } => raise(
-            table, sizes, scopes, starts, firsts, node, o, constant, variable, amount,
-        ),
+        } => extend(table, site, constant, function, variable, value, amount),
+        Move::Raise { variable, amount } => raise(table, site, constant, variable, amount),
     }
 }
 
-fn project<'a>(
+fn project(
     table: &mut [u64],
-    sizes: &'a [u8; VARS],
-    scopes: &'a [u8; ROWS],
-    starts: &'a [usize; FUNCTIONS],
-    firsts: &'a [usize; VARS],
-    node: &'a [u8; VARS],
-    o: Outline,
+    site: Site,
     constant: u64,
     f: usize,
     i: usize,
     a: usize,
     amount: u64,
-) -> Outcome
-    requires { Laid o sizes.now scopes.now starts.now firsts.now node.now (length table.old) }
-    ensures { leaves result table.new ≡ tried (net_of o sizes.now scopes.now) (live_in sizes.now node.now) (Project f i a amount) constant table.old }
+) -> Result<u64, Refusal>
+    requires { entries (net_at site) ≤ length table.old }
+    ensures { leaves (told result) table.new ≡ tried (net_at site.entry) (lives site.entry) (Project f i a amount) constant table.old }
 {
-    let may = may_exchange(sizes, scopes, node, o, f, i, a, amount);
-    if !may {
-        return refused(Answer::Illegal);
+    if !may_exchange(site, f, i, a, amount) {
+        return Err(Refusal::Illegal);
     }
-    let block = function_block(sizes, scopes, starts, node, o, f, i, a);
-    let least = least_block(table, o.top, block);
-    if least < amount {
-        return refused(Answer::Illegal);
+    let top = site.judged.network.top;
+    let block = site.block(f, i, a);
+    if least_block(table, top, block) < amount {
+        return Err(Refusal::Illegal);
     }
-    let at = unary_start(firsts, i) + a;
-    change_block(table, false, o.top, amount, block);
-    change_one(table, true, o.top, amount, at);
-    Outcome {
-        answer: Answer::Done,
-        constant: constant,
-    }
+    let at = site.judged.firsts[i] + a;
+    change_block(table, Change::gives(top, amount), block);
+    change_one(table, Change::takes(top, amount), at);
+    Ok(constant)
 }
 
-fn extend<'a>(
+fn extend(
     table: &mut [u64],
-    sizes: &'a [u8; VARS],
-    scopes: &'a [u8; ROWS],
-    starts: &'a [usize; FUNCTIONS],
-    firsts: &'a [usize; VARS],
-    node: &'a [u8; VARS],
-    o: Outline,
+    site: Site,
     constant: u64,
     f: usize,
     i: usize,
     a: usize,
     amount: u64,
-) -> Outcome
-    requires { Laid o sizes.now scopes.now starts.now firsts.now node.now (length table.old) }
-    ensures { leaves result table.new ≡ tried (net_of o sizes.now scopes.now) (live_in sizes.now node.now) (Extend f i a amount) constant table.old }
+) -> Result<u64, Refusal>
+    requires { entries (net_at site) ≤ length table.old }
+    ensures { leaves (told result) table.new ≡ tried (net_at site.entry) (lives site.entry) (Extend f i a amount) constant table.old }
 {
-    let may = may_exchange(sizes, scopes, node, o, f, i, a, amount);
-    if !may {
-        return refused(Answer::Illegal);
+    if !may_exchange(site, f, i, a, amount) {
+        return Err(Refusal::Illegal);
     }
-    let at = unary_start(firsts, i) + a;
-    let cost = table[at];
-    if cost < amount {
-        return refused(Answer::Illegal);
+    let top = site.judged.network.top;
+    let at = site.judged.firsts[i] + a;
+    if table[at] < amount {
+        return Err(Refusal::Illegal);
     }
-    let block = function_block(sizes, scopes, starts, node, o, f, i, a);
-    change_one(table, false, o.top, amount, at);
-    change_block(table, true, o.top, amount, block);
-    Outcome {
-        answer: Answer::Done,
-        constant: constant,
-    }
+    let block = site.block(f, i, a);
+    change_one(table, Change::gives(top, amount), at);
+    change_block(table, Change::takes(top, amount), block);
+    Ok(constant)
 }
 
-fn raise<'a>(
+fn raise(
     table: &mut [u64],
-    sizes: &'a [u8; VARS],
-    scopes: &'a [u8; ROWS],
-    starts: &'a [usize; FUNCTIONS],
-    firsts: &'a [usize; VARS],
-    node: &'a [u8; VARS],
-    o: Outline,
+    site: Site,
     constant: u64,
     i: usize,
     amount: u64,
-) -> Outcome
-    requires { Laid o sizes.now scopes.now starts.now firsts.now node.now (length table.old) }
-    ensures { leaves result table.new ≡ tried (net_of o sizes.now scopes.now) (live_in sizes.now node.now) (Raise i amount) constant table.old }
+) -> Result<u64, Refusal>
+    requires { entries (net_at site) ≤ length table.old }
+    ensures { leaves (told result) table.new ≡ tried (net_at site.entry) (lives site.entry) (Raise i amount) constant table.old }
 {
-    let may = may_raise(o, i, amount);
-    if !may {
-        return refused(Answer::Illegal);
+    let net = &site.judged.network;
+    if !is_amount(net.top, amount) || net.vars <= i {
+        return Err(Refusal::Illegal);
     }
-    let x = live_span(sizes, node, i);
-    let at = unary_start(firsts, i);
-    let least = least_row(table, o.top, at, x);
-    if least < amount {
-        return refused(Answer::Illegal);
+    let x = site.span(i);
+    let at = site.judged.firsts[i];
+    if least_row(table, net.top, at, x) < amount {
+        return Err(Refusal::Illegal);
     }
-    change_row(table, false, o.top, amount, at, x);
-    Outcome {
-        answer: Answer::Done,
-        constant: plus_of(o.top, constant, amount),
-    }
+    change_row(table, Change::gives(net.top, amount), at, x);
+    Ok(plus_of(net.top, constant, amount))
 }
 
 // An amount, function f, variable i in its scope, and a live value of it.
-fn may_exchange<'a>(
-    sizes: &'a [u8; VARS],
-    scopes: &'a [u8; ROWS],
-    node: &'a [u8; VARS],
-    o: Outline,
-    f: usize,
-    i: usize,
-    a: usize,
-    amount: u64,
-) -> bool
-    requires { Scoped o.vars o.functions sizes.now scopes.now }
-    ensures { result ≡ (between 1 o.top amount && joins (net_of o sizes.now scopes.now) (live_in sizes.now node.now) f i a) }
+fn may_exchange(site: Site, f: usize, i: usize, a: usize, amount: u64) -> bool
+    ensures { result ≡ (between 1 site.entry.judged.now.network.top amount && joins (net_at site.entry) (lives site.entry) f i a) }
 {
-    let fair = is_amount(o.top, amount);
-    if !fair {
+    let net = &site.judged.network;
+    if !is_amount(net.top, amount) || net.functions <= f || net.vars <= i {
         return false;
     }
-    if o.functions <= f {
+    if !in_scope(net, f, i) || net.size(i) <= a {
         return false;
     }
-    if o.vars <= i {
-        return false;
-    }
-    let scoped = in_scope(scopes, f, i);
-    if !scoped {
-        return false;
-    }
-    let size = byte_at(sizes, i);
-    if size <= a {
-        return false;
-    }
-    is_live(sizes, node, i, a)
-}
-
-fn may_raise(o: Outline, i: usize, amount: u64) -> bool
-    ensures { result ≡ (between 1 o.top amount && ltb i o.vars) }
-{
-    let fair = is_amount(o.top, amount);
-    if !fair {
-        return false;
-    }
-    if o.vars <= i {
-        return false;
-    }
-    true
+    is_live(site, i, a)
 }
 
 // "Amounts are 1 to k"
 fn is_amount(top: u64, amount: u64) -> bool
     ensures { result ≡ between 1 top amount }
 {
-    if amount < 1 {
-        return false;
-    }
-    if top < amount {
-        return false;
-    }
-    true
+    1 <= amount && amount <= top
 }
 
-fn in_scope(scopes: &[u8; ROWS], f: usize, i: usize) -> bool
-    requires { (f < functions_most) × (in_row scopes.now f 0 ≤ arity_most) }
-    ensures { result ≡ among i (scope_in (in_row scopes.now f)) }
+fn in_scope(net: &Network, f: usize, i: usize) -> bool
+    requires { (f < functions_most) × (in_row net.now.scopes f 0 ≤ arity_most) }
+    ensures { result ≡ among i (scope_in (in_row net.now.scopes f)) }
 {
-    let arity = row_at(scopes, f, 0);
-    let mut j: usize = 0;
-    while j < arity {
-        let v = row_at(scopes, f, j + 1);
-        if i == v {
-            return true;
-        }
-        j += 1;
-    }
-    false
+    net.scope(f).iter().any(|v| usize::from(*v) == i)
 }
 
-fn is_live<'a>(sizes: &'a [u8; VARS], node: &'a [u8; VARS], i: usize, a: usize) -> bool
+fn is_live(site: Site, i: usize, a: usize) -> bool
     requires { i < vars_most }
-    ensures { result ≡ live_in sizes.now node.now i a }
+    ensures { result ≡ lives site.entry i a }
 {
-    let x = live_span(sizes, node, i);
-    if a < x.from {
-        return false;
-    }
-    if x.to <= a {
-        return false;
-    }
-    true
+    let x = site.span(i);
+    x.from <= a && a < x.to
 }

@@ -1,4 +1,5 @@
 -- What a successful call keeps: shown of the costs that it leaves, used by the next call, and kept over both. Assumes nothing.
+use Rattle.std.specs.Prelude.{Ok}
 use Prim.Native.Nat.{ℕ, ◌≤◌, ◌<◌}
 use mathlib.Core.Path.{◌≡◌, ap, ◌∙◌}
 use mathlib.Core.List.{List}
@@ -7,7 +8,6 @@ use lib.ListN.{length, get_or}
 use Rattle.costs.specs.declared.networks.Network.{Network}
 use Rattle.costs.specs.Net.{Costs, costs_of, entries, price}
 use Rattle.costs.specs.Networks.{outline_of, stands, with_constant}
-use Rattle.judging.specs.declared.Judged.TheVariants.{Fit}
 use Rattle.judging.specs.Judging.{judged, IsNetwork}
 use Rattle.judging.proofs.JudgeLaws.{network_fit, network_again}
 use Rattle.shifts.specs.declared.nodes.Node.{Node}
@@ -40,7 +40,7 @@ kept_by net node held lent constant after left e h whole low most prices past = 
 
 module _ (net : Network) (node : Node) (held lent : List ℕ) (constant : ℕ) (after : List ℕ) (kept : CostsKept net node held lent constant after) where
   -- a later call that is lent the numbers with the new constant beside the table is refused neither 8, nor 7 where no other table is too short
-  pub kept_fit : (room : ℕ) → entries (stands net) ≤ room → Fit (outline_of (with_constant net constant)) ≡ judged (with_constant net constant) after room
+  pub kept_fit : (room : ℕ) → entries (stands net) ≤ room → Ok (outline_of (with_constant net constant)) ≡ judged (with_constant net constant) after room
   kept_fit room l = network_fit (with_constant net constant) after room kept.network l
 
   -- so calls of `shift` follow one another at a node, after a pass or not, and together keep what each keeps

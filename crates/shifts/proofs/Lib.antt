@@ -7,3 +7,4 @@ pub mod DoorLaws
 pub mod OneOutcome
 pub mod KeptLaws
 pub mod ShiftCalls
+pub mod SiteLaws

@@ -1,4 +1,5 @@
 -- What the code does to boxes is what the rules say of shifts: the costs that each shift leaves, and when it is legal. Assumes nothing.
+use Rattle.std.specs.Prelude.{Err}
 use Prim.Native.Nat.{ℕ, ◌+◌, ◌*◌, ◌≤◌, ◌<◌, min}
 use mathlib.Core.Path.{◌≡◌, refl, sym, ap, ◌∙◌}
 use mathlib.Core.Bool.{Bool, true, false, ◌&&◌}
@@ -6,13 +7,13 @@ use mathlib.Core.List.{List, [], ◌∷◌}
 use native.Mathlib.Omega.{arith}
 use lib.Dec.{T, leb, ltb, eqb, leb→le, le→leb, eqb→eq, eqb_refl}
 use lib.ListN.{get_or}
-use Rattle.answers.specs.declared.Answer.TheVariants.{Done, Illegal}
+use Rattle.answers.specs.Answers.{Done}
+use Rattle.answers.specs.declared.Refusal.TheVariants.{Illegal}
 use Rattle.costs.specs.Cost.{plus}
 use Rattle.costs.specs.Net.{Net, Costs, tuples, start, entries, costs_of}
 use Rattle.costs.specs.Limits.{entries_most}
-use Rattle.costs.specs.Networks.{in_row, scope_in, net_of}
+use Rattle.costs.specs.Networks.{Outline, in_row, scope_in, net_of}
 use Rattle.costs.specs.Tests.{between, among, Decides}
-use Rattle.costs.specs.declared.networks.Outline.{Outline}
 use Rattle.costs.proofs.TestLaws.{is_true, is_false, same_test, so, by_and, by_ltb, by_map, by_between}
 use Rattle.costs.proofs.RowLaws.{rest, rest_next, scope_unary, scope-function}
 use Rattle.costs.proofs.NetLaws.{stretch_below}
@@ -104,16 +105,16 @@ pub tried_done : (n : Net) (live : ℕ → ℕ → Bool) (x : Move) (constant af
 unfolding tried
 tried_done n live x constant after t t' e h = rw e (ap (λ (c : Costs). record { answer = Done; costs = c }) h)
 
-pub tried_illegal : (n : Net) (live : ℕ → ℕ → Bool) (x : Move) (constant : ℕ) (t : List ℕ) → is_legal n live (costs_of constant t) x ≡ false → leaves (record { answer = Illegal; constant = 0 }) t ≡ tried n live x constant t
+pub tried_illegal : (n : Net) (live : ℕ → ℕ → Bool) (x : Move) (constant : ℕ) (t : List ℕ) → is_legal n live (costs_of constant t) x ≡ false → leaves (record { answer = Err Illegal; constant = 0 }) t ≡ tried n live x constant t
 unfolding tried
 tried_illegal n live x constant t e = rw e
 
 -- a shift is legal where the code's first tests pass and the giver has enough
 module _ (n : Net) (live : ℕ → ℕ → Bool) (x : Move) (constant m : ℕ) (t : List ℕ) (may : Bool) (has : ℕ) (legal : is_legal n live (costs_of constant t) x ≡ (may && leb m has)) where
-  pub tried_not : may ≡ false → leaves (record { answer = Illegal; constant = 0 }) t ≡ tried n live x constant t
+  pub tried_not : may ≡ false → leaves (record { answer = Err Illegal; constant = 0 }) t ≡ tried n live x constant t
   tried_not e = tried_illegal n live x constant t (legal ∙ rw e)
 
-  pub tried_less : has < m → leaves (record { answer = Illegal; constant = 0 }) t ≡ tried n live x constant t
+  pub tried_less : has < m → leaves (record { answer = Err Illegal; constant = 0 }) t ≡ tried n live x constant t
   tried_less l = tried_illegal n live x constant t (legal ∙ rw (is_false (leb m has) (λ q. let h = leb→le m has q in omega arith)) (off may))
     where
       off : (b : Bool) → (b && false) ≡ false
@@ -146,7 +147,7 @@ legal_extend n live c f i a m may has d e =
 
 -- where the first tests fail, whatever the giver has
 pub extend_not : (n : Net) (live : ℕ → ℕ → Bool) (f i a m constant : ℕ) (t : List ℕ) → (between 1 n.top m && joins n live f i a) ≡ false
-    → leaves (record { answer = Illegal; constant = 0 }) t ≡ tried n live (Extend f i a m) constant t
+    → leaves (record { answer = Err Illegal; constant = 0 }) t ≡ tried n live (Extend f i a m) constant t
 unfolding is_legal
 extend_not n live f i a m constant t e = tried_illegal n live (Extend f i a m) constant t (regroup n.top m (joins n live f i a) _ _ (λ l. refl) ∙ rw e)
 

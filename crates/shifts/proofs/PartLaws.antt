@@ -7,11 +7,11 @@ use mathlib.Core.List.{List, [], ◌∷◌}
 use native.Mathlib.Omega.{arith}
 use native.Mathlib.Nat.{mul-one, mul-le-mul}
 use lib.Dec.{T, eqb, ltb, leb→le, le→leb, ltb→lt, lt→ltb, eqb→eq, eqb_refl}
-use lib.ListN.{get_or, take}
+use lib.ListN.{length, get_or, take}
+use Rattle.std.proofs.lemmas.List.{get_or-take, length-take-le}
 use Rattle.costs.specs.Limits.{size_most, entries_most}
 use Rattle.costs.specs.Net.{Net, All, tuples, start}
-use Rattle.costs.specs.Networks.{in_row, scope_in, net_of, Ready}
-use Rattle.costs.specs.declared.networks.Outline.{Outline}
+use Rattle.costs.specs.Networks.{Outline, in_row, scope_in, net_of, Ready}
 use Rattle.costs.proofs.TestLaws.{is_true, is_false, same_test}
 use Rattle.costs.proofs.NetLaws.{stretch_below}
 use Rattle.costs.proofs.RowLaws.{scope-function}
@@ -183,3 +183,19 @@ module _ (o : Outline) (sizes rows starts fx : List ℕ) (ready : Ready o sizes 
 -- a block within a table lies within a longer one
 pub roomier : {b : Block} {m n : ℕ} → Sits b m → m ≤ n → Sits b n
 roomier h l = record { outer = h.outer; middle = h.middle; inner = h.inner; fits = omega (arith, h.fits); few = h.few }
+
+-- what stands in a scope, and how long it is
+abbrev three : (ℕ → ℕ) → List ℕ
+three row = row 1 ∷ row 2 ∷ row 3 ∷ []
+
+pub scope_long : (row : ℕ → ℕ) → row 0 ≤ 3 → length (scope_in row) ≡ row 0
+scope_long row h = length-take-le (row 0) (three row) h
+
+pub scope_first : (row : ℕ → ℕ) → 0 < row 0 → get_or (scope_in row) 0 0 ≡ row 1
+scope_first row l = get_or-take (row 0) (three row) 0 0 l
+
+pub scope_second : (row : ℕ → ℕ) → 1 < row 0 → get_or (scope_in row) 1 0 ≡ row 2
+scope_second row l = get_or-take (row 0) (three row) 1 0 l
+
+pub scope_third : (row : ℕ → ℕ) → 2 < row 0 → get_or (scope_in row) 2 0 ≡ row 3
+scope_third row l = get_or-take (row 0) (three row) 2 0 l

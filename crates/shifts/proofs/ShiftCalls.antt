@@ -1,4 +1,5 @@
 -- The public call `shift`: when it succeeds, and demand 2 for it. Its promise is `leaves r after ≡ shift_leaves net before node x`. Assumes nothing.
+use Rattle.std.specs.Prelude.{Err, Ok}
 use Prim.Native.Nat.{ℕ, ◌+◌, ◌≤◌}
 use mathlib.Core.Path.{◌≡◌, refl, sym, ap, ◌∙◌}
 use mathlib.Core.Bool.{Bool, true, false, cond}
@@ -6,17 +7,14 @@ use mathlib.Core.List.{List}
 use native.Mathlib.Omega.{arith}
 use lib.Dec.{T}
 use lib.ListN.{length}
-use Rattle.answers.specs.declared.Answer.TheVariants.{Done, Illegal}
-use Rattle.answers.specs.Answers.{number_of}
+use Rattle.answers.specs.Answers.{Done, number_of}
+use Rattle.answers.specs.declared.Refusal.TheVariants.{Illegal}
 use Rattle.costs.specs.declared.networks.Network.{Network}
-use Rattle.costs.specs.declared.networks.Outline.{Outline}
 use Rattle.costs.specs.Net.{Net, Costs, Sound, costs_of, entries}
-use Rattle.costs.specs.Networks.{stands}
+use Rattle.costs.specs.Networks.{Outline, stands}
 use Rattle.costs.proofs.TestLaws.{is_true}
-use Rattle.judging.specs.declared.Judged.{Judged}
-use Rattle.judging.specs.declared.Judged.TheVariants.{Fit, Refused}
 use Rattle.judging.specs.declared.Unfit.TheVariants.{NoNetwork, TooShort}
-use Rattle.judging.specs.Judging.{judged}
+use Rattle.judging.specs.Judging.{judged, Judgement}
 use Rattle.judging.proofs.JudgeLaws.{Passed, judged-passed, network_fit, network_sound}
 use Rattle.shifts.specs.declared.nodes.Node.{Node}
 use Rattle.shifts.specs.declared.moves.Move.{Move}
@@ -62,13 +60,13 @@ module _ (net : Network) (before : List ℕ) (node : Node) (x : Move) where
   unfolding shift_leaves tried
   leaves-may e = go (judged net before (length before)) (node_legal net node) (is_legal n live costs x) (judged-passed net before (length before)) (by_node net node).says (by_legal n live costs x).says (ap number_of e)
     where
-      go : (j : Judged) (a b : Bool) → ((o : Outline) → Fit o ≡ j → Passed net before (length before) o) → (T a → IsNode n live) → (T b → Legal n live costs x)
-          → number_of (settled j a (cond b (record { answer = Done; costs = shifted n live x costs }) (record { answer = Illegal; costs = costs_of 0 before })) (costs_of 0 before)).answer ≡ 0 → MayShift net before node x
-      go (Fit o) true true f g h e = record { network = (f o refl).network; whole = (f o refl).roomy; node_is_legal = g tt; shift_legal = h tt }
-      go (Fit o) true false f g h e = absurd (omega arith)
-      go (Fit o) false b f g h e = absurd (omega arith)
-      go (Refused NoNetwork) a b f g h e = absurd (omega arith)
-      go (Refused TooShort) a b f g h e = absurd (omega arith)
+      go : (j : Judgement) (a b : Bool) → ((o : Outline) → Ok o ≡ j → Passed net before (length before) o) → (T a → IsNode n live) → (T b → Legal n live costs x)
+          → number_of (settled j a (cond b (record { answer = Done; costs = shifted n live x costs }) (record { answer = Err Illegal; costs = costs_of 0 before })) (costs_of 0 before)).answer ≡ 0 → MayShift net before node x
+      go (Ok o) true true f g h e = record { network = (f o refl).network; whole = (f o refl).roomy; node_is_legal = g tt; shift_legal = h tt }
+      go (Ok o) true false f g h e = absurd (omega arith)
+      go (Ok o) false b f g h e = absurd (omega arith)
+      go (Err NoNetwork) a b f g h e = absurd (omega arith)
+      go (Err TooShort) a b f g h e = absurd (omega arith)
 
   module _ (r : Outcome) (after : List ℕ) (promise : leaves r after ≡ shift_leaves net before node x) where
     answered : r.answer ≡ (shift_leaves net before node x).answer

@@ -1,7 +1,7 @@
 // The shifts of cost, as they are asked for.
 
 // One of the paper's three shifts, by an amount.
-#[derive(Clone, Copy)]
+#[derive(Clone, Copy, Debug, PartialEq, Eq)]
 pub enum Move {
     // from a function to a value of a variable in its scope
     Project {

@@ -5,16 +5,28 @@
 mod stretches;
 
 ghost use Rattle.std.specs.Prelude.{◌≡◌};
-ghost use Rattle.showing.specs.Showing.{shown_part};
+ghost use Rattle.showing.specs.Showing.{shown_part, table_of};
 
-use crate::stretches::{may_show, part_of};
-use costs::networks::{Network, start_at, tuples_of};
+use crate::stretches::may_show;
+use costs::networks::Network;
 
 // The held costs, or those that are worked on.
-#[derive(Clone, Copy)]
+#[derive(Clone, Copy, Debug, PartialEq, Eq)]
 pub enum Which {
     Held,
     Worked,
+}
+
+impl Which {
+    // The table that is meant.
+    fn table<'a>(self, held: &'a [u64], worked: &'a [u64]) -> &'a [u64]
+        ensures { result.now ≡ table_of self held.now worked.now }
+    {
+        match self {
+            Which::Held => held,
+            Which::Worked => worked,
+        }
+    }
 }
 
 // The held or the worked costs of function f: that stretch of the lent table itself, or an empty part.
@@ -27,25 +39,10 @@ pub fn shown<'a>(
 ) -> &'a [u64]
     ensures { result.now ≡ shown_part net held.now worked.now which f }
 {
-    let may = may_show(
-        &net.sizes,
-        &net.scopes,
-        &net.starts,
-        net.top,
-        net.constant,
-        net.vars,
-        net.functions,
-        held,
-        worked,
-        f,
-    );
-    if !may {
-        return part_of(held, 0, 0);
+    if !may_show(&net, held, worked, f) {
+        return &[];
     }
-    let start = start_at(&net.starts, f);
-    let end = start + tuples_of(&net.sizes, &net.scopes, net.vars, net.functions, f);
-    match which {
-        Which::Held => part_of(held, start, end),
-        Which::Worked => part_of(worked, start, end),
-    }
+    let start = net.start(f);
+    let end = start + net.tuples(f);
+    &which.table(held, worked)[start..end]
 }

@@ -1,19 +1,30 @@
-use mathlib.Core.Path.{sym, ◌∙◌}
-use native.Mathlib.Omega.{arith}
-use Rattle.shifts.proofs.DoorLaws.{fit}
-use Rattle.passes.proofs.DoorLaws.{pass_refused, pass_fit}
+use Rattle.std.proofs.Common.{arith}
+use Rattle.passes.proofs.DoorLaws.{judge_refused, node_refused, entries_roomy, site_roomy, passed_there}
 use Rattle.passes.proofs.pass_in.Goals as goal
 
-pub returns-in-Refused : goal.returns-in-Refused
-returns-in-Refused c = rw (c.refused.ensures, c.refusal.ensures)
-    (pass_refused _ _ _ _ _ c.shorter-room.ensures _ _ (sym c.judge.ensures ∙ c.in-Refused.is) c.clear.ensures)
+pub returns-in_err-judged-clause-err : goal.returns-in_err-judged-clause-err
+returns-in_err-judged-clause-err c = let s = c.args in
+    judge_refused s.net.now s.held.now s.work.now s.node.now _ c.min.ensures _ _ c.from_residual.ensures.1 c.in_err-judged.ensures.value
 
-pub pass_at-requires : goal.pass_at-requires
-pass_at-requires c = let h = fit _ _ _ _ (sym c.judge.ensures ∙ c.in-Fit.is) in
-    record {
-      ready = h.0;
-      scopes_in_bounds = (omega (arith, h.1, c.shorter-room.ensures), omega (arith, h.1, c.shorter-room.ensures));
-    }
+pub returns-in_err-site-clause-err : goal.returns-in_err-site-clause-err
+returns-in_err-site-clause-err c = let s = c.args in
+    let bad = c.in_err-site.ensures.err in
+    node_refused s.net.now s.held.now s.work.now s.node.now _ c.min.ensures c.in_ok-judged.judged c.in_ok-judged.ensures.network c.in_ok-judged.ensures.value _ _ c.from_residual-in_err-site.ensures.1 bad.0 bad.1
 
-pub returns : goal.returns
-returns c = c.pass_at.ensures ∙ pass_fit _ _ _ _ _ c.shorter-room.ensures _ (sym c.judge.ensures ∙ c.in-Fit.is)
+pub copy_in-requires : goal.copy_in-requires
+copy_in-requires c = let s = c.args in
+    let passed = c.in_ok-judged in
+    entries_roomy s.net.now s.held.now s.work.now s.node.now _ c.min.ensures passed.judged passed.ensures.network passed.ensures.value
+
+pub pass_over-requires : goal.pass_over-requires
+pass_over-requires c = let s = c.args in
+    let passed = c.in_ok-judged in
+    let roomy = site_roomy s.net.now s.held.now s.work.now s.node.now _ c.min.ensures passed.judged passed.ensures.network passed.ensures.value c.in_ok-site.site c.in_ok-site.ensures.ok.0 in
+    omega (arith, roomy, c.copy_in.auto.table)
+
+pub returns-clause-ok : goal.returns-clause-ok
+returns-clause-ok c = let s = c.args in
+    let passed = c.in_ok-judged in
+    let site = c.in_ok-site.ensures.ok in
+    passed_there s.net.now s.held.now s.work.now s.node.now _ c.min.ensures passed.judged passed.ensures.network passed.ensures.value c.in_ok-site.site site.0 site.1 site.2
+    c.copy_in.new.table c.pass_over.new.table c.pass_over.result c.copy_in.ensures c.pass_over.ensures

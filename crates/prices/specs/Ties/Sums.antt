@@ -1,9 +1,9 @@
 -- Ties: how the code's running sum stands for a plan's.
 use Rattle.std.specs.Prelude.{ℕ, cond, List, leb}
-use Rattle.costs.specs.declared.networks.Outline.{Outline}
+use Rattle.costs.specs.declared.networks.Network.{Network}
 use Rattle.costs.specs.Cost.{plus}
 use Rattle.costs.specs.Net.{Net, Costs, costs_of, running_sum}
-use Rattle.costs.specs.Networks.{net_of}
+use Rattle.costs.specs.Networks.{stands}
 use Rattle.costs.specs.Cheapest.{value_in}
 use Rattle.prices.specs.declared.breaks.Break.{Break}
 use Rattle.prices.specs.declared.breaks.Break.TheVariants.{Nowhere, Constant}
@@ -24,6 +24,6 @@ added_to top x cost part = record { price = plus top x.price cost; broke = cond 
 abbrev pub sum_after : Net → Costs → (ℕ → ℕ) → ℕ → Sum
 sum_after n c p s = record { price = running_sum n c p s; broke = broke_by n c p s }
 
--- the same of an outline and what stands beside it
-abbrev pub sum_in : Outline → List ℕ → List ℕ → List ℕ → List ℕ → ℕ → Sum
-sum_in o sizes rows t choice s = sum_after (net_of o sizes rows) (costs_of o.constant t) (value_in choice) s
+-- the same of a network, a table and a plan's choices
+abbrev pub sum_in : Network → List ℕ → List ℕ → ℕ → Sum
+sum_in net t choice s = sum_after (stands net) (costs_of net.constant t) (value_in choice) s

@@ -1,15 +1,22 @@
-use mathlib.Core.Path.{sym, ◌∙◌}
-use Rattle.shifts.proofs.DoorLaws.{fit, shift_refused, shift_fit}
+use Rattle.shifting.proofs.ShiftLaws.{judge_refused, node_refused, site_roomy, tried_there}
 use Rattle.shifting.proofs.shift_in.Goals as goal
 
-pub returns-in-Refused : goal.returns-in-Refused
-returns-in-Refused c = rw (c.refused.ensures, c.refusal.ensures) (shift_refused _ _ _ _ _ (sym c.judge.ensures ∙ c.in-Refused.is))
+pub returns-in_err-judged : goal.returns-in_err-judged
+returns-in_err-judged c = judge_refused _ _ _ _ _ _ c.from_residual.ensures.1 c.in_err-judged.ensures.value
 
-pub shift_at-requires : goal.shift_at-requires
-shift_at-requires c =
-    let whole = fit _ _ _ _ (sym c.judge.ensures ∙ c.in-Fit.is) in
-    record { ready = whole.0; scopes_in_bounds = whole.1 }
+pub returns-in_err-site : goal.returns-in_err-site
+returns-in_err-site c =
+    let s = c.args in
+    let bad = c.in_err-site.ensures.err in
+    node_refused s.net.now s.table.now s.node.now s.one c.in_ok-judged.judged c.in_ok-judged.ensures.network c.in_ok-judged.ensures.value _ _ c.from_residual-in_err-site.ensures.1 bad.0 bad.1
+
+pub try_shift-requires : goal.try_shift-requires
+try_shift-requires c =
+    let s = c.args in
+    site_roomy s.net.now s.table.now s.node.now s.one c.in_ok-judged.judged c.in_ok-judged.ensures.network c.in_ok-judged.ensures.value c.in_ok-site.site c.in_ok-site.ensures.ok.0
 
 pub returns : goal.returns
 returns c =
-    c.shift_at.ensures ∙ shift_fit _ _ _ _ _ (sym c.judge.ensures ∙ c.in-Fit.is)
+    let s = c.args in
+    let site = c.in_ok-site.ensures.ok in
+    tried_there s.net.now s.table.now s.node.now s.one c.in_ok-judged.judged c.in_ok-judged.ensures.network c.in_ok-judged.ensures.value c.in_ok-site.site site.0 site.1 site.2 _ c.try_shift.new.table c.try_shift.ensures

@@ -1,9 +1,7 @@
 -- Ties: how the code holds a part at a node: the span of each variable's live values, and a block for each function.
-use Rattle.std.specs.Prelude.{ℕ, zero, suc, ◌≤◌, ◌<◌, ◌≡◌, Bool, cond, List, eqb, get_or}
+use Rattle.std.specs.Prelude.{ℕ, zero, suc, ◌≤◌, ◌<◌, ◌≡◌, Bool, cond, List, eqb, get_or, Ok}
 use Rattle.costs.specs.Net.{Net, start, entries, costs_of}
-use Rattle.costs.specs.Networks.{net_of, Ready}
-use Rattle.costs.specs.declared.networks.Outline.{Outline}
-use Rattle.judging.specs.declared.Judged.TheVariants.{Fit}
+use Rattle.costs.specs.Networks.{Outline, net_of, Ready}
 use Rattle.boxes.specs.declared.Span.{Span}
 use Rattle.boxes.specs.declared.Block.{Block}
 use Rattle.boxes.specs.Places.{on}
@@ -39,4 +37,4 @@ pub record Laid (o : Outline) (sizes rows starts firsts fixed : List ℕ) (room 
 
 -- what a shift at a node leaves, where the network is judged
 unfoldable pub tried_at : Outline → List ℕ → List ℕ → List ℕ → Move → List ℕ → CostsLeft
-tried_at o sizes rows fixed x t = settled (Fit o) (node_good o.vars sizes fixed) (tried (net_of o sizes rows) (live_in sizes fixed) x o.constant t) (costs_of 0 t)
+tried_at o sizes rows fixed x t = settled (Ok o) (node_good o.vars sizes fixed) (tried (net_of o sizes rows) (live_in sizes fixed) x o.constant t) (costs_of 0 t)

@@ -1,65 +1,32 @@
-use Prim.Native.Nat.{◌+◌}
-use mathlib.Core.Path.{◌≡◌, refl}
-use native.Mathlib.Omega.{arith}
-use lib.ListN.{get_or}
-use borrow.Author.Rules.{rules}
-use Rattle.costs.proofs.NetLaws.{tuples_unary, stretch_below, touched_below, touched_unary}
-use Rattle.costs.proofs.RangeLaws.{sum_to_next}
-use Rattle.costs.specs.Net.{Sound, touched, costs_of}
-use Rattle.costs.specs.Networks.{net_of}
+use Rattle.std.proofs.Common.{ℕ, ap, arith, get_or}
+use Rattle.costs.specs.Net.{costs_of}
+use Rattle.costs.specs.Networks.{outline_of, stands}
 use Rattle.costs.specs.Cheapest.{value_in}
+use Rattle.costs.proofs.NetLaws.{tuples_unary, stretch_below}
+use Rattle.costs.proofs.RangeLaws.{sum_to_next}
 use Rattle.costs.proofs.RowLaws.{scoped_sound}
 use Rattle.prices.proofs.BreakLaws.{sum_unary}
+use Rattle.prices.proofs.PriceLaws.{unary_place}
 use Rattle.prices.proofs.prices.with_unary.Goals as goal
 
-pub loop-v-init : goal.loop-v-init
-loop-v-init c = (search rules, c.requires.before_value, refl)
-
 pub overflow_add-start : goal.overflow_add-start
-overflow_add-start c = let s = c.args in
-    let r = c.requires.scoped in
-    let n = (net_of s.o s.sizes.now s.scopes.now) in
-    let good : Sound n = scoped_sound s.o s.sizes.now s.scopes.now r in
-    let at = touched_unary n good (value_in s.choice.now) c.loop-v.v (omega arith) in
-    let low = touched_below n good (value_in s.choice.now) c.requires.plan c.loop-v.v (omega arith) in
-    omega (arith, at, low, c.byte_at-value.ensures)
+overflow_add-start c = omega (arith, unary_place c.args.judged.now c.args.table.now c.args.choice.now c.requires.whole c.requires.plan c.loop-v.v c.loop-v.start c.from-value.result c.loop-v-test.true c.loop-v.invariant.1 c.from-value.ensures)
 
 pub offset_bounds-table-start : goal.offset_bounds-table-start
-offset_bounds-table-start c = let s = c.args in
-    let r = c.requires.scoped in
-    let n = (net_of s.o s.sizes.now s.scopes.now) in
-    let good : Sound n = scoped_sound s.o s.sizes.now s.scopes.now r in
-    let at = touched_unary n good (value_in s.choice.now) c.loop-v.v (omega arith) in
-    let low = touched_below n good (value_in s.choice.now) c.requires.plan c.loop-v.v (omega arith) in
-    omega (arith, at, low, c.byte_at-value.ensures)
+offset_bounds-table-start c = omega (arith, unary_place c.args.judged.now c.args.table.now c.args.choice.now c.requires.whole c.requires.plan c.loop-v.v c.loop-v.start c.from-value.result c.loop-v-test.true c.loop-v.invariant.1 c.from-value.ensures)
 
 pub bounds-table-start : goal.bounds-table-start
-bounds-table-start c = let s = c.args in
-    let r = c.requires.scoped in
-    let n = (net_of s.o s.sizes.now s.scopes.now) in
-    let good : Sound n = scoped_sound s.o s.sizes.now s.scopes.now r in
-    let at = touched_unary n good (value_in s.choice.now) c.loop-v.v (omega arith) in
-    let low = touched_below n good (value_in s.choice.now) c.requires.plan c.loop-v.v (omega arith) in
-    omega (arith, at, low, c.byte_at-value.ensures)
+bounds-table-start c = omega (arith, unary_place c.args.judged.now c.args.table.now c.args.choice.now c.requires.whole c.requires.plan c.loop-v.v c.loop-v.start c.from-value.result c.loop-v-test.true c.loop-v.invariant.1 c.from-value.ensures)
 
 pub overflow_add-start-in-loop-v : goal.overflow_add-start-in-loop-v
-overflow_add-start-in-loop-v c = let s = c.args in
-    let n = (net_of s.o s.sizes.now s.scopes.now) in
-    let good : Sound n = scoped_sound s.o s.sizes.now s.scopes.now c.requires.scoped in
-    let at = touched_unary n good (value_in s.choice.now) c.loop-v.v (omega arith) in
-    omega (arith, c.byte_at-start.ensures, tuples_unary n good c.loop-v.v (omega arith), stretch_below n c.loop-v.v (omega arith))
+overflow_add-start-in-loop-v c = let j = c.args.judged.now in let net = j.network in
+    let good = scoped_sound (outline_of net) net.sizes net.scopes j.ready.scoped in
+    omega (arith, c.size-start.ensures, c.loop-v.invariant.1, j.ready.few, tuples_unary (stands net) good c.loop-v.v c.loop-v-test.true, stretch_below (stands net) c.loop-v.v (omega arith))
 
 pub loop-v-preserved : goal.loop-v-preserved
-loop-v-preserved c = let s = c.args in
-    let n = (net_of s.o s.sizes.now s.scopes.now) in
-    let good : Sound n = scoped_sound s.o s.sizes.now s.scopes.now c.requires.scoped in
-    let at = touched_unary n good (value_in s.choice.now) c.loop-v.v (omega arith) in
-    let cost : get_or s.table.now (c.loop-v.start + c.byte_at-value.result) 0 ≡ get_or s.table.now (touched n (value_in s.choice.now) c.loop-v.v) 0 =
-    rw (at, c.byte_at-value.ensures, c.loop-v.invariant.2) in (
-      omega arith,
-      sum_unary n (costs_of s.o.constant s.table.now) (value_in s.choice.now) c.loop-v.v _ _ _ (omega arith) c.loop-v.invariant.1 cost c.added-sum.ensures,
-      rw (sum_to_next, tuples_unary n good c.loop-v.v (omega arith), c.byte_at-start.ensures, c.loop-v.invariant.2),
+loop-v-preserved c = let j = c.args.judged.now in let net = j.network in
+    let good = scoped_sound (outline_of net) net.sizes net.scopes j.ready.scoped in
+    let place = unary_place j c.args.table.now c.args.choice.now c.requires.whole c.requires.plan c.loop-v.v c.loop-v.start c.from-value.result c.loop-v-test.true c.loop-v.invariant.1 c.from-value.ensures in (
+      sum_unary (stands net) (costs_of net.constant c.args.table.now) (value_in c.args.choice.now) c.loop-v.v _ _ _ c.loop-v-test.true c.loop-v.invariant.0 (ap (λ (i : ℕ). get_or c.args.table.now i 0) place.0) c.added-sum.ensures,
+      rw (sum_to_next, tuples_unary (stands net) good c.loop-v.v c.loop-v-test.true, c.size-start.ensures, c.loop-v.invariant.1),
     )
-
-pub returns : goal.returns
-returns c = let e : c.loop-v.v ≡ c.args.o.vars = omega arith in rw e at c.loop-v.invariant.1

@@ -1,20 +1,19 @@
+use Rattle.std.proofs.Common.{sym, ◌∙◌}
+use Rattle.costs.proofs.TestLaws.{so, not_so}
 use Rattle.showing.specs.Showing.{may_show}
-use borrow.Author.Tests.{le-ltb, lt-ltb}
-use mathlib.Core.Path.{sym, ◌∙◌}
+use Rattle.showing.proofs.stretches.may_show.Goals.{then-whole_with, else-whole_with}
 use Rattle.showing.proofs.stretches.may_show.Goals as goal
 
-pub returns-then-not-first : goal.returns-then-not-first
+pub returns-then-whole_with-2 : goal.returns-then-whole_with-2
 unfolding may_show
-returns-then-not-first c = rw (sym c.whole_with-first.ensures ∙ c.if-not-first.true)
+returns-then-whole_with-2 c = elim c.if-whole_with.branch [
+  | then-whole_with w ↦ rw (sym c.whole_with.ensures ∙ w.if-whole_with.true, sym w.whole_with-then-whole_with.ensures ∙ sym w.value-is ∙ c.if-whole_with-2.true)
+  | else-whole_with w ↦ absurd (not_so (w.value-is ∙ w.if-whole_with.false) (so c.if-whole_with-2.true))
+]
 
-pub returns-then-not-second : goal.returns-then-not-second
+pub returns-else-whole_with-2 : goal.returns-else-whole_with-2
 unfolding may_show
-returns-then-not-second c = rw (sym c.whole_with-first.ensures ∙ c.if-not-first.false, sym c.whole_with-second.ensures ∙ c.if-not-second.true)
-
-pub returns-then-functions-f : goal.returns-then-functions-f
-unfolding may_show
-returns-then-functions-f c = rw (sym c.whole_with-first.ensures ∙ c.if-not-first.false, sym c.whole_with-second.ensures ∙ c.if-not-second.false, le-ltb _ _ c.if-functions-f.true)
-
-pub returns : goal.returns
-unfolding may_show
-returns c = rw (sym c.whole_with-first.ensures ∙ c.if-not-first.false, sym c.whole_with-second.ensures ∙ c.if-not-second.false, lt-ltb _ _ c.if-functions-f.false)
+returns-else-whole_with-2 c = c.if-whole_with-2.false ∙ elim c.if-whole_with.branch [
+  | then-whole_with w ↦ rw (sym c.whole_with.ensures ∙ w.if-whole_with.true, sym w.whole_with-then-whole_with.ensures ∙ sym w.value-is ∙ c.if-whole_with-2.false)
+  | else-whole_with w ↦ rw (sym c.whole_with.ensures ∙ w.if-whole_with.false)
+]

@@ -1,0 +1,3 @@
+-- The lemmas of this room.
+pub mod SiteMoves
+pub mod ShiftLaws
