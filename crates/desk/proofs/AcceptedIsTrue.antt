@@ -1,10 +1,7 @@
 -- Demand 3: what an accepted record claims is true, whoever wrote it. Assumes nothing.
-use Prim.Native.Nat.{ℕ}
-use mathlib.Core.Path.{◌≡◌}
-use mathlib.Core.Logic.{◌⊎◌}
-use mathlib.Core.List.{List}
+use Rattle.std.proofs.Common.{ℕ, ◌≡◌, ◌⊎◌, List}
 use Rattle.costs.specs.declared.networks.Network.{Network}
-use Rattle.answers.specs.declared.Answer.TheVariants.{Done}
+use Rattle.answers.specs.Answers.{Done}
 use Rattle.costs.specs.Net.{costs_of}
 use Rattle.costs.specs.Networks.{stands}
 use Rattle.judging.proofs.JudgeLaws.{network_sound}

@@ -1,24 +1,13 @@
 -- The desk accepts exactly the records that keep the rules. Assumes nothing.
-use Prim.Native.Nat.{ℕ, zero, suc, ◌+◌, ◌*◌, ◌/◌, ◌%◌, ◌≤◌, ◌<◌, min}
-use mathlib.Core.Path.{◌≡◌, refl, sym, ap, ◌∙◌}
-use mathlib.Core.Bool.{true, cond, not}
-use mathlib.Core.Logic.{inl, inr, ⊎_elim, ◌≢◌}
-use mathlib.Core.List.{List, [], ◌∷◌}
-use mathlib.Core.Option.{none}
-use native.Mathlib.Omega.{arith}
-use lib.Dec.{leb, ltb, eqb}
-use lib.ListN.{length}
-use borrow.Author.Tests.{lt-ltb, ltb-true, not-false}
+use Rattle.std.proofs.Common.{Ok, Err, ℕ, zero, suc, ◌+◌, ◌*◌, ◌/◌, ◌%◌, ◌≤◌, ◌<◌, min, ◌≡◌, refl, sym, ap, ◌∙◌, true, cond, not, inl, inr, ⊎_elim, ◌≢◌, List, [], ◌∷◌, arith, leb, ltb, eqb, length, lt-ltb, ltb-true}
+use Rattle.std.proofs.Math.Option.{none}
+use Rattle.std.proofs.lemmas.Bool.{not-false}
 use Rattle.costs.specs.declared.networks.Network.{Network}
-use Rattle.answers.specs.declared.Answer.{Answer}
-use Rattle.answers.specs.declared.Answer.TheVariants.{Done}
-use Rattle.answers.specs.Answers.{number_of}
+use Rattle.answers.specs.Answers.{Answer, Done, number_of}
 use Rattle.costs.specs.Net.{Net, Costs, IsPlan, costs_of, price}
 use Rattle.costs.specs.Networks.{stands}
-use Rattle.judging.specs.declared.Judged.{Judged}
-use Rattle.judging.specs.declared.Judged.TheVariants.{Fit, Refused}
 use Rattle.judging.specs.declared.Unfit.TheVariants.{NoNetwork, TooShort}
-use Rattle.judging.specs.Judging.{judged, Lent}
+use Rattle.judging.specs.Judging.{Judgement, judged, Lent}
 use Rattle.judging.proofs.JudgeLaws.{lent_fit, fit_lent}
 use Rattle.costs.specs.Tests.{Decides}
 use Rattle.costs.proofs.TestLaws.{by_leb, by_ltb, by_eqb, by_self, by_and, by_map}
@@ -27,8 +16,7 @@ use Rattle.records.specs.Words.{word_bytes, word_at}
 use Rattle.records.specs.Steps.{step_words, step_at}
 use Rattle.records.specs.Trees.{root}
 use Rattle.records.specs.Records.{header_words, StepsKept, Shape, told, claims, KeepsRules, KeptBy}
-use Rattle.spelling.specs.declared.faults.Fault.{Fault}
-use Rattle.spelling.specs.declared.faults.Fault.TheVariants.{Nowhere, At}
+use Rattle.spelling.specs.Spelling.{Kept}
 use Rattle.spelling.specs.Spelling.{steps_fault}
 use Rattle.spelling.proofs.SpellingLaws.{is_nowhere, by_rule, by_steps}
 use Rattle.desk.specs.Faults.{Rule, rule, fault_in, answer_to}
@@ -45,7 +33,7 @@ module _ (n : Net) (held : Costs) (word : ℕ → ℕ) (many : ℕ) where
       by_map (λ h. record { steps = h.steps; reads = h.reads; keeps = h.spells }) (λ h. record { steps = h.steps; reads = h.reads; spells = h.keeps })
       (by_steps (claims n held word) (step_at word) (word 7) w (root n ∷ []) none)
 
-  by_shape : {A : Type 0} (count : ℕ) (later : Fault) → Decides (is_nowhere later) A
+  by_shape : {A : Type 0} (count : ℕ) (later : Kept) → Decides (is_nowhere later) A
       → Decides (is_nowhere (fault_in (rule 4 (eqb (word 4) header_words) ∷ rule 5 (eqb (word 5) count) ∷ rule 6 (eqb (word 6) (header_words + count)) ∷ rule 7 (eqb many (header_words + count + step_words * word 7)) ∷ []) later))
       (Shape word many count × A)
   by_shape count later d =
@@ -76,7 +64,7 @@ module _ (n : Net) (held : Costs) (word : ℕ → ℕ) (many : ℕ) where
       ∷ rule 7 (eqb many (header_words + cond (eqb v 0) n.vars 0 + step_words * word 7))
       ∷ cond (eqb v 0) (plan_rules n held word) []
 
-  abbrev steps : ℕ → Fault
+  abbrev steps : ℕ → Kept
   steps v = steps_fault (claims n held word) (step_at word) (word 7) (header_words + cond (eqb v 0) n.vars 0) (root n ∷ []) none
 
   by_verdict : (v : ℕ) → word 2 ≡ v → Decides (is_nowhere (fault_in (rules v) (steps v))) (KeepsRules n held word many)
@@ -125,20 +113,20 @@ by_bytes n held bytes =
     (by_and (by_leb (header_words * word_bytes) (length bytes)) (by_eqb (length bytes % word_bytes) 0))
     (by_record n held (word_at bytes) (length bytes / word_bytes)))
 
-by_done : (f : Fault) → Decides (is_nowhere f) (answer_to f ≡ Done)
+by_done : (f : Kept) → Decides (is_nowhere f) (answer_to f ≡ Done)
 unfolding is_nowhere
-by_done Nowhere = record { says = λ t. refl; finds = λ e. tt }
-by_done (At w) = record { says = λ t. absurd t; finds = λ e. absurd (let z : ◌≡◌ {A = ℕ} 0 1 = cc in omega arith) }
+by_done (Ok x) = record { says = λ t. refl; finds = λ e. tt }
+by_done (Err w) = record { says = λ t. absurd t; finds = λ e. absurd (let z : ◌≡◌ {A = ℕ} 0 1 = cc in omega arith) }
 
 -- an answer that is not the judge's: a network and room enough were lent
 module _ (net : Network) (held : List ℕ) (room : ℕ) (bytes : List ℕ) where
   abbrev deserved : Answer
   deserved = answer_to (bytes_fault (stands net) (costs_of net.constant held) bytes)
 
-  by_judge : (j : Judged) → judged net held (min (length held) room) ≡ j → (a : Answer) → after_judge j deserved ≡ a → number_of a ≢ 7 → number_of a ≢ 8 → Lent net held room
-  by_judge (Fit o) q a e not7 not8 = fit_lent net held room o (sym q)
-  by_judge (Refused NoNetwork) q a e not7 not8 = absurd (not8 (sym (ap number_of e)))
-  by_judge (Refused TooShort) q a e not7 not8 = absurd (not7 (sym (ap number_of e)))
+  by_judge : (j : Judgement) → judged net held (min (length held) room) ≡ j → (a : Answer) → after_judge j deserved ≡ a → number_of a ≢ 7 → number_of a ≢ 8 → Lent net held room
+  by_judge (Ok o) q a e not7 not8 = fit_lent net held room o (sym q)
+  by_judge (Err NoNetwork) q a e not7 not8 = absurd (not8 (sym (ap number_of e)))
+  by_judge (Err TooShort) q a e not7 not8 = absurd (not7 (sym (ap number_of e)))
 
   pub answer_lent : (a : Answer) → checked net held room bytes ≡ a → number_of a ≢ 7 → number_of a ≢ 8 → Lent net held room
   unfolding checked

@@ -1,21 +1,17 @@
 -- What the check of a record answers.
-use Rattle.std.specs.Prelude.{ℕ, ◌+◌, ◌*◌, ◌/◌, ◌%◌, min, ◌≡◌, Bool, true, false, cond, not, ◌&&◌, ◌⊎◌, List, [], ◌∷◌, ◌++◌, leb, ltb, eqb, length}
+use Rattle.std.specs.Prelude.{ℕ, ◌+◌, ◌*◌, ◌/◌, ◌%◌, min, ◌≡◌, Bool, true, false, cond, not, ◌&&◌, ◌⊎◌, List, [], ◌∷◌, ◌++◌, leb, ltb, eqb, length, Ok, Err}
 use Rattle.std.proofs.Math.Option.{none}
-use Rattle.answers.specs.declared.Answer.{Answer}
+use Rattle.answers.specs.Answers.{Answer}
 use Rattle.costs.specs.declared.networks.Network.{Network}
 use Rattle.costs.specs.Range.{first_to}
 use Rattle.costs.specs.Net.{Net, Costs, costs_of, price}
 use Rattle.costs.specs.Networks.{stands}
-use Rattle.judging.specs.declared.Judged.{Judged}
-use Rattle.judging.specs.declared.Judged.TheVariants.{Fit, Refused}
-use Rattle.judging.specs.Judging.{judged, refusal_of}
+use Rattle.judging.specs.Judging.{Judgement, judged, refusal_of}
 use Rattle.records.specs.Words.{word_bytes, word_at}
 use Rattle.records.specs.Steps.{step_words, step_at}
 use Rattle.records.specs.Trees.{root}
 use Rattle.records.specs.Records.{header_words, told, claims}
-use Rattle.spelling.specs.declared.faults.Fault.{Fault}
-use Rattle.spelling.specs.declared.faults.Fault.TheVariants.{At}
-use Rattle.spelling.specs.Spelling.{steps_fault, StepsBreak}
+use Rattle.spelling.specs.Spelling.{Kept, steps_fault, StepsBreak}
 use Rattle.desk.specs.Faults.{Rule, rule, fault_in, answer_to, AllKept, FirstBroken}
 
 -- "edition 1; N; verdict (0 cheapest, 1 none); claimed cost c (below k, or equal to k for verdict 1)"
@@ -48,17 +44,21 @@ header_rules top vars word many = claim_rules top vars word ++ shape_rules word 
 abbrev pub first_bad_value : ℕ → (ℕ → ℕ) → (ℕ → ℕ) → ℕ
 first_bad_value vars size word = first_to vars (λ v. not (ltb (told word v) (size v)))
 
+-- the values: each below its size
+abbrev pub values_rule : ℕ → (ℕ → ℕ) → (ℕ → ℕ) → Rule
+values_rule vars size word = rule (header_words + first_bad_value vars size word) (leb vars (first_bad_value vars size word))
+
 -- "values, price (3)", where there is a plan
 unfoldable pub plan_rules : Net → Costs → (ℕ → ℕ) → List Rule
 plan_rules n held word =
-    rule (header_words + first_bad_value n.vars n.size word) (leb n.vars (first_bad_value n.vars n.size word)) ∷ rule 3 (eqb (price n held (told word)) (word 3)) ∷ []
+    values_rule n.vars n.size word ∷ rule 3 (eqb (price n held (told word)) (word 3)) ∷ []
 
 -- the rules of a record before its steps, in order
 abbrev pub rules_of : Net → Costs → (ℕ → ℕ) → ℕ → List Rule
 rules_of n held word many = header_rules n.top n.vars word many ++ cond (eqb (word 2) 0) (plan_rules n held word) []
 
 -- "header words in order, total length (7), values, price (3), and steps by first word"
-unfoldable pub record_fault : Net → Costs → (ℕ → ℕ) → ℕ → Fault
+unfoldable pub record_fault : Net → Costs → (ℕ → ℕ) → ℕ → Kept
 record_fault n held word many =
     fault_in (rules_of n held word many)
     (steps_fault (claims n held word) (step_at word) (word 7) (header_words + count_of n.vars word) (root n ∷ []) none)
@@ -68,8 +68,8 @@ abbrev pub whole_words : ℕ → Bool
 whole_words size = leb (header_words * word_bytes) size && eqb (size % word_bytes) 0
 
 -- "a length under 64 or not a multiple of 8 gives 0"
-unfoldable pub bytes_fault : Net → Costs → List ℕ → Fault
-bytes_fault n held bytes = cond (whole_words (length bytes)) (record_fault n held (word_at bytes) (length bytes / word_bytes)) (At 0)
+unfoldable pub bytes_fault : Net → Costs → List ℕ → Kept
+bytes_fault n held bytes = cond (whole_words (length bytes)) (record_fault n held (word_at bytes) (length bytes / word_bytes)) (Err 0)
 
 -- the words of a record break their first rule at word j: one of those before the steps, or all these are kept and the steps fail there
 abbrev pub RecordBreaksAt : Net → Costs → (ℕ → ℕ) → ℕ → ℕ → Type 0
@@ -82,9 +82,9 @@ abbrev pub BreaksAt : Net → Costs → List ℕ → ℕ → Type 0
 BreaksAt n held bytes j =
     ((whole_words (length bytes) ≡ false) × (j ≡ 0)) ⊎ ((whole_words (length bytes) ≡ true) × RecordBreaksAt n held (word_at bytes) (length bytes / word_bytes) j)
 
-abbrev pub after_judge : Judged → Answer → Answer
-after_judge (Fit o) a = a
-after_judge (Refused why) a = refusal_of why
+abbrev pub after_judge : Judgement → Answer → Answer
+after_judge (Ok o) a = a
+after_judge (Err why) a = refusal_of why
 
 -- "8, 7, then the rest in table order": `room` is the length of the working table
 unfoldable pub checked : Network → List ℕ → ℕ → List ℕ → Answer

@@ -1,7 +1,7 @@
 -- The records of document 01, "Reckoned by hand", and damaged ones, checked by the definitions.
-use Rattle.std.specs.Prelude.{ℕ, ◌≡◌, refl, List, [], ◌∷◌, ◌++◌, map, take, set}
-use Rattle.answers.specs.declared.Answer.{Answer}
-use Rattle.answers.specs.declared.Answer.TheVariants.{Done, ShortTable, NotNetwork, BrokenRule}
+use Rattle.std.specs.Prelude.{ℕ, ◌≡◌, refl, List, [], ◌∷◌, ◌++◌, map, take, set, Err}
+use Rattle.answers.specs.Answers.{Answer, Done}
+use Rattle.answers.specs.declared.Refusal.TheVariants.{ShortTable, NotNetwork, BrokenRule}
 use Rattle.costs.specs.Cost.{minus}
 use Rattle.costs.specs.Net.{price}
 use Rattle.costs.specs.PaperNetworks.{network_a, table_a, network_b, table_b, network_c, table_c}
@@ -44,6 +44,6 @@ damaged =
     (set words_b 3 9 ∷ set words_b 3 5 ∷ set words_b 8 2 ∷ set words_b 9 0 ∷ set words_b 11 1 ∷ set words_b 18 3 ∷ (set words_b 7 6 ++ (5 ∷ 0 ∷ 0 ∷ 0 ∷ 0 ∷ [])) ∷ take 29 (set words_b 7 4) ∷ [])
 
 checks : whole ++ damaged
-    ≡ (Done ∷ Done ∷ Done ∷ NotNetwork ∷ ShortTable ∷ []) ++ (BrokenRule 3 ∷ BrokenRule 3 ∷ BrokenRule 8 ∷ BrokenRule 9 ∷ BrokenRule 9 ∷ BrokenRule 19 ∷ BrokenRule 34 ∷ BrokenRule 29 ∷ [])
+    ≡ (Done ∷ Done ∷ Done ∷ (Err NotNetwork) ∷ (Err ShortTable) ∷ []) ++ (Err (BrokenRule 3) ∷ Err (BrokenRule 3) ∷ Err (BrokenRule 8) ∷ Err (BrokenRule 9) ∷ Err (BrokenRule 9) ∷ Err (BrokenRule 19) ∷ Err (BrokenRule 34) ∷ Err (BrokenRule 29) ∷ [])
 unfolding checked bytes_fault record_fault header_rules plan_rules steps_fault may word_at step_of judged is_network ranges_good sizes_good variables_good row_good scopes_good stretches_good costs_good price shifted is_legal gives in_stretch fixing minus
 checks = refl

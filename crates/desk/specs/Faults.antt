@@ -1,9 +1,8 @@
 -- Rules in their order, each at its word: the fault is at the first that is broken.
-use Rattle.std.specs.Prelude.{ℕ, ◌≡◌, Bool, cond, not, ◌⊎◌, List, [], ◌∷◌, T}
-use Rattle.answers.specs.declared.Answer.{Answer}
-use Rattle.answers.specs.declared.Answer.TheVariants.{Done, BrokenRule}
-use Rattle.spelling.specs.declared.faults.Fault.{Fault}
-use Rattle.spelling.specs.declared.faults.Fault.TheVariants.{Nowhere, At}
+use Rattle.std.specs.Prelude.{ℕ, ◌≡◌, Bool, cond, not, ◌⊎◌, List, [], ◌∷◌, T, Ok, Err}
+use Rattle.answers.specs.Answers.{Answer, Done}
+use Rattle.answers.specs.declared.Refusal.TheVariants.{BrokenRule}
+use Rattle.spelling.specs.Spelling.{Kept}
 
 pub record Rule : Type 0 where
   pub word : ℕ
@@ -13,14 +12,14 @@ abbrev pub rule : ℕ → Bool → Rule
 rule w t = record { word = w; kept = t }
 
 -- the word of the first broken rule; where there is none, the fault that comes later
-abbrev pub fault_in : List Rule → Fault → Fault
+abbrev pub fault_in : List Rule → Kept → Kept
 fault_in [] later = later
-fault_in (r ∷ rs) later = cond r.kept (fault_in rs later) (At r.word)
+fault_in (r ∷ rs) later = cond r.kept (fault_in rs later) (Err r.word)
 
 -- "13: record breaks a rule: word number"
-abbrev pub answer_to : Fault → Answer
-answer_to Nowhere = Done
-answer_to (At w) = BrokenRule w
+abbrev pub answer_to : Kept → Answer
+answer_to (Ok x) = Done
+answer_to (Err w) = Err (BrokenRule w)
 
 -- each rule of a list is kept
 abbrev pub AllKept : List Rule → Type 0

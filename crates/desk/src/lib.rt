@@ -17,18 +17,7 @@ use tables::clear;
 pub fn check(net: Network, held: &[u64], work: &mut [u64], bytes: &[u8]) -> Answer
     ensures { (result ≡ checked net held.now (length work.old) bytes.now) × (work.new ≡ replicate (length work.old) 0) }
 {
-    let answer = answered(
-        work,
-        held,
-        bytes,
-        &net.sizes,
-        &net.scopes,
-        &net.starts,
-        net.top,
-        net.constant,
-        net.vars,
-        net.functions,
-    );
+    let answer = answered(&net, held, work, bytes);
     clear(work);
     answer
 }

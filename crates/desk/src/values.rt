@@ -1,29 +1,31 @@
 // The values of a record's plan.
-ghost use Rattle.std.specs.Prelude.{◌≡◌, ℕ, ◌+◌, ◌*◌, ◌≤◌, ◌<◌, length, get_or};
+ghost use Rattle.std.specs.Prelude.{◌≡◌, [], ◌∷◌, ℕ, ◌+◌, ◌*◌, ◌≤◌, ◌<◌, length, get_or};
 ghost use Rattle.costs.specs.Limits.{vars_most, size_most};
+ghost use Rattle.costs.specs.Networks.{sizes_of};
 ghost use Rattle.records.specs.Words.{word_bytes, word_at};
 ghost use Rattle.records.specs.Records.{header_words, told};
-ghost use Rattle.desk.specs.Checking.{first_bad_value};
+ghost use Rattle.spelling.specs.Spelling.{no_fault};
+ghost use Rattle.desk.specs.Faults.{fault_in};
+ghost use Rattle.desk.specs.Checking.{values_rule};
 
 use costs::limits::VARS;
-use costs::networks::byte_at;
+use costs::networks::Network;
 use records::layout::HEADER_WORDS;
 use records::words::word_at;
+use spelling::faults::Kept;
 
-// The first variable whose value is not below its size, or their number.
-pub fn first_bad_value(bytes: &[u8], sizes: &[u8; VARS], vars: usize) -> usize
-    requires { (vars ≤ vars_most) × ((header_words + vars) * word_bytes ≤ length bytes.now) }
-    ensures { result ≡ first_bad_value vars (λ v. get_or sizes.now v 0) (word_at bytes.now) }
+// The first word with a value that is not below its variable's size.
+pub fn values_fault(bytes: &[u8], net: &Network) -> Kept
+    requires { (net.now.vars ≤ vars_most) × ((header_words + net.now.vars) * word_bytes ≤ length bytes.now) }
+    ensures { result ≡ fault_in (values_rule net.now.vars (sizes_of net.now.sizes) (word_at bytes.now) ∷ []) no_fault }
 {
-    let mut v: usize = 0;
-    while v < vars {
-        let value = word_at(bytes, HEADER_WORDS + v) as usize;
-        if byte_at(sizes, v) <= value {
-            return v;
+    for v in 0..net.vars {
+        // `usize` has no `From<u64>`
+        if net.size(v) <= word_at(bytes, HEADER_WORDS + v) as usize {
+            return Err(HEADER_WORDS + v);
         }
-        v += 1;
     }
-    vars
+    Ok(())
 }
 
 // The values, where each is below a size.
@@ -33,10 +35,9 @@ pub fn plan_told(bytes: &[u8], vars: usize) -> [u8; VARS]
     ensures { (v : ℕ) → v < vars → get_or result v 0 ≡ told (word_at bytes.now) v }
 {
     let mut choice = [0u8; VARS];
-    let mut v: usize = 0;
-    while v < vars {
+    for v in 0..vars {
+        // `u8` has no `From<u64>`, and `try_from` would need an arm that no value below a size reaches
         choice[v] = word_at(bytes, HEADER_WORDS + v) as u8;
-        v += 1;
     }
     choice
 }

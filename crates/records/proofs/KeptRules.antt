@@ -1,10 +1,6 @@
 -- A record that keeps the rules makes a true claim, whoever wrote it. What a step does is shown for each kind, the rest once for all kinds. Assumes nothing.
-use Prim.Native.Nat.{ℕ, ◌≤◌}
-use mathlib.Core.Path.{◌≡◌, refl, ◌∙◌}
-use mathlib.Core.Logic.{◌⊎◌, inl, inr, ⊎_elim}
-use mathlib.Core.List.{List, [], ◌∷◌}
-use mathlib.Core.Option.{Option, none}
-use native.Mathlib.Omega.{arith}
+use Rattle.std.proofs.Common.{ℕ, ◌≤◌, ◌≡◌, refl, ◌∙◌, ◌⊎◌, inl, inr, ⊎_elim, List, [], ◌∷◌, arith}
+use Rattle.std.proofs.Math.Option.{Option, none}
 use Rattle.costs.specs.Net.{Net, Costs, Sound, IsPlan, price}
 use Rattle.costs.specs.Cheapest.{IsCheapest, NonePayable}
 use Rattle.costs.proofs.NetLaws.{price_capped}

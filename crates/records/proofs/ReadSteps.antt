@@ -1,18 +1,10 @@
 -- Steps that stand in words are read back, and no other list of steps is. Assumes nothing.
-use Prim.Native.Nat.{ℕ, zero, suc, ◌+◌}
-use mathlib.Core.Path.{◌≡◌, refl, sym, ap, ◌∙◌}
-use mathlib.Core.List.{List, [], ◌∷◌, ◌++◌, append_assoc}
-use native.Mathlib.Omega.{arith}
-use native.Mathlib.Nat.{add-zero}
-use lib.ListN.{length, get_or, length-append}
-use lib.Seq.{get_or-append-add}
+use Rattle.std.proofs.Common.{ℕ, zero, suc, ◌+◌, ◌≡◌, refl, sym, ap, ◌∙◌, List, [], ◌∷◌, ◌++◌, append_assoc, arith, add-zero, length, get_or, length-append, get_or-append-add, Some, None}
 use Rattle.shifts.specs.declared.moves.Move.TheVariants.{Project, Extend, Raise}
 use Rattle.records.specs.declared.steps.Step.{Step}
 use Rattle.records.specs.declared.steps.Step.TheVariants.{Branch, Shift, Close}
-use Rattle.records.specs.declared.steps.Spelt.{Spelt}
-use Rattle.records.specs.declared.steps.Spelt.TheVariants.{One, Nothing}
 use Rattle.records.specs.Words.{tells}
-use Rattle.records.specs.Steps.{words_of, step_words, spell, step_of, step_at}
+use Rattle.records.specs.Steps.{Spelt, words_of, step_words, spell, step_of, step_at}
 use Rattle.records.specs.Records.{Reads}
 use Rattle.records.proofs.StepLaws.{words_many}
 
@@ -23,7 +15,7 @@ read_five pre ys =
     rw (e, get_or-append-add pre ys 1 0, get_or-append-add pre ys 2 0, get_or-append-add pre ys 3 0, get_or-append-add pre ys 4 0)
 
 read_one : (s : Step) (rest : List ℕ)
-    → step_of (get_or (words_of s ++ rest) 0 0) (get_or (words_of s ++ rest) 1 0) (get_or (words_of s ++ rest) 2 0) (get_or (words_of s ++ rest) 3 0) (get_or (words_of s ++ rest) 4 0) ≡ One s
+    → step_of (get_or (words_of s ++ rest) 0 0) (get_or (words_of s ++ rest) 1 0) (get_or (words_of s ++ rest) 2 0) (get_or (words_of s ++ rest) 3 0) (get_or (words_of s ++ rest) 4 0) ≡ Some s
 unfolding step_of
 read_one (Branch i) rest = refl
 read_one (Shift (Project f i a m)) rest = refl
@@ -39,8 +31,8 @@ reads_spell pre (s ∷ ss) =
 
 -- the step that is spelt, if one is
 abbrev step_in : Spelt → Step
-step_in (One s) = s
-step_in Nothing = Close
+step_in (Some s) = s
+step_in None = Close
 
 -- words read as one list of steps only
 pub reads_one : (at : ℕ → Spelt) (left w : ℕ) (ss ts : List Step) → Reads at left w ss → Reads at left w ts → ss ≡ ts

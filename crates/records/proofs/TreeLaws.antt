@@ -1,11 +1,6 @@
 -- Laws of a record's tree: which plans fit its nodes, and what holds of each child. Assumes nothing.
-use Prim.Native.Nat.{ℕ, zero, suc, ◌<◌}
-use mathlib.Core.Path.{◌≡◌}
-use mathlib.Core.Bool.{Bool, true, false, cond}
-use mathlib.Core.List.{List, [], ◌∷◌}
-use native.Mathlib.Omega.{arith}
-use native.Mathlib.Decide.{ℕ_discrete}
-use lib.Dec.{T, lt→ltb}
+use Rattle.std.proofs.Common.{ℕ, zero, suc, ◌<◌, ◌≡◌, Bool, true, false, cond, List, [], ◌∷◌, arith, T, lt→ltb}
+use Rattle.std.proofs.Math.Decide.{ℕ_discrete}
 use Rattle.costs.specs.Net.{Net, IsPlan}
 use Rattle.shifts.specs.Nodes.{Fits}
 use Rattle.shifts.proofs.NodeLaws.{fits_below}

@@ -1,29 +1,21 @@
 -- Laws of words and their bytes. Assumes nothing.
-use Prim.Native.Nat.{ℕ, zero, suc, ◌+◌, ◌*◌, ◌^◌, ◌/◌, ◌<◌}
-use mathlib.Core.Path.{◌≡◌, refl, sym, ap, ◌∙◌}
-use mathlib.Core.List.{List, [], ◌∷◌, ◌++◌}
-use native.Mathlib.Omega.{arith}
-use native.Mathlib.Nat.{zero-mul}
-use native.Mathlib.Decide.{dec_lt}
-use lib.ListN.{length, get_or, replicate, length-append, get_or-append, get_or-eq_default}
-use lib.Seq.{get_or-append-add}
-use Rattle.costs.specs.Range.{sum_to}
+use Rattle.std.proofs.Common.{ℕ, zero, suc, ◌+◌, ◌*◌, ◌^◌, ◌/◌, ◌<◌, ◌≡◌, refl, sym, ap, ◌∙◌, List, [], ◌∷◌, ◌++◌, arith, zero-mul, length, get_or, replicate, length-append, get_or-append-add, ◌-◌, drop, slice_index, slice_range, get_or-take, get_or-drop, lit<, w64}
+use Rattle.std.proofs.Math.Decide.{dec_lt}
+use Rattle.std.proofs.Math.ListN.{get_or-append, get_or-eq_default}
+use Rattle.std.specs.Int.{from_le_bytes}
 use Rattle.costs.specs.Net.{All}
 use Rattle.costs.proofs.RangeLaws.{sum_to-same}
 use Rattle.costs.proofs.NetLaws.{All-at, All-append}
 use Rattle.records.specs.Words.{word_bytes, word_of, word_at, tells, bytes_to, bytes_of}
 
--- a word is its two halves
-pub word_halves : (bytes : List ℕ) (w low high : ℕ) → low ≡ sum_to 4 (λ j. get_or bytes (w * word_bytes + j) 0 * 256 ^ j)
-    → high ≡ sum_to 4 (λ j. get_or bytes (w * word_bytes + 4 + j) 0 * 256 ^ j) → low + high * 4_294_967_296 ≡ word_at bytes w
+-- a word is what its eight bytes tell
+pub word_read : (bytes : List ℕ) (w : ℕ) → from_le_bytes w64 (slice_range bytes (w * word_bytes) (w * word_bytes + word_bytes)) ≡ word_at bytes w
 unfolding word_at
-word_halves bytes w low high l h =
-    let e0 : w * 8 + 4 + 0 ≡ w * 8 + 4 = omega arith in
-    let e1 : w * 8 + 4 + 1 ≡ w * 8 + 5 = omega arith in
-    let e2 : w * 8 + 4 + 2 ≡ w * 8 + 6 = omega arith in
-    let e3 : w * 8 + 4 + 3 ≡ w * 8 + 7 = omega arith in
-    let k = rw (e0, e1, e2, e3) at h in
-    omega (arith, k)
+word_read bytes w =
+    let at : (j : ℕ) → j < word_bytes → slice_index (slice_range bytes (w * word_bytes) (w * word_bytes + word_bytes)) j ≡ get_or bytes (w * word_bytes + j) 0 =
+    λ j l. get_or-take (w * word_bytes + word_bytes - w * word_bytes) (drop (w * word_bytes) bytes) j 0 (omega arith) ∙ get_or-drop (w * word_bytes) bytes j 0
+    in
+    omega (arith, at 0 (lit< tt), at 1 (lit< tt), at 2 (lit< tt), at 3 (lit< tt), at 4 (lit< tt), at 5 (lit< tt), at 6 (lit< tt), at 7 (lit< tt))
 
 -- as many bytes as are asked for
 pub bytes_to_many : (n x : ℕ) → length (bytes_to n x) ≡ n

@@ -1,11 +1,9 @@
 -- The rules of a whole record, from its words. `word` tells each word, `many` how many there are.
-use Rattle.std.specs.Prelude.{ℕ, zero, suc, ◌+◌, ◌*◌, ◌≤◌, ◌<◌, ◌≡◌, cond, ◌⊎◌, List, [], ◌∷◌, ◌++◌, ltb, length}
+use Rattle.std.specs.Prelude.{Some, ℕ, zero, suc, ◌+◌, ◌*◌, ◌≤◌, ◌<◌, ◌≡◌, cond, ◌⊎◌, List, [], ◌∷◌, ◌++◌, ltb, length}
 use Rattle.costs.specs.Net.{Net, Costs, IsPlan, price}
 use Rattle.records.specs.declared.steps.Step.{Step}
-use Rattle.records.specs.declared.steps.Spelt.{Spelt}
-use Rattle.records.specs.declared.steps.Spelt.TheVariants.{One}
 use Rattle.records.specs.Words.{word_bytes, word_at}
-use Rattle.records.specs.Steps.{step_words, spell, step_at}
+use Rattle.records.specs.Steps.{Spelt, step_words, spell, step_at}
 use Rattle.records.specs.Rules.{Claim, claim_of, Keeps}
 
 -- "A header of eight counts and offsets"
@@ -25,7 +23,7 @@ abbrev pub Reads : (ℕ → Spelt) → ℕ → ℕ → List Step → Type 0
 Reads at zero w [] = Unit {0}
 Reads at zero w (s ∷ ss) = ⊥
 Reads at (suc left) w [] = ⊥
-Reads at (suc left) w (s ∷ ss) = (at w ≡ One s) × Reads at left (w + step_words) ss
+Reads at (suc left) w (s ∷ ss) = (at w ≡ Some s) × Reads at left (w + step_words) ss
 
 -- the words from w on spell steps that keep the rules
 pub record StepsKept (r : Claim) (word : ℕ → ℕ) (left w : ℕ) : Type 0 where

@@ -1,10 +1,8 @@
 -- "steps of five words: kind, function, variable, value, amount; unused words are 0"
-use Rattle.std.specs.Prelude.{ℕ, ◌+◌, Bool, cond, ◌&&◌, List, [], ◌∷◌, ◌++◌, eqb}
+use Rattle.std.specs.Prelude.{ℕ, ◌+◌, Bool, cond, ◌&&◌, Option, Some, None, List, [], ◌∷◌, ◌++◌, eqb}
 use Rattle.shifts.specs.declared.moves.Move.TheVariants.{Project, Extend, Raise}
 use Rattle.records.specs.declared.steps.Step.{Step}
 use Rattle.records.specs.declared.steps.Step.TheVariants.{Branch, Shift, Close}
-use Rattle.records.specs.declared.steps.Spelt.{Spelt}
-use Rattle.records.specs.declared.steps.Spelt.TheVariants.{One, Nothing}
 
 -- "Kinds: 1 branch (variable, not yet fixed), 2 project, 3 extend, 4 raise (variable, amount), 5 close."
 abbrev pub words_of : Step → List ℕ
@@ -23,22 +21,26 @@ abbrev pub spell : List Step → List ℕ
 spell [] = []
 spell (s ∷ ss) = words_of s ++ spell ss
 
+-- what five words spell: a step, or nothing
+abbrev pub Spelt : Type 0
+Spelt = Option Step
+
 -- "unused words are 0": 0 stands for a word that is used
 abbrev pub all_zero : ℕ → ℕ → ℕ → ℕ → Bool
 all_zero f i a m = eqb f 0 && (eqb i 0 && (eqb a 0 && eqb m 0))
 
 abbrev pub spelt_if : Bool → Step → Spelt
-spelt_if zeros s = cond zeros (One s) Nothing
+spelt_if zeros s = cond zeros (Some s) None
 
 -- the step that five words spell
 unfoldable pub step_of : ℕ → ℕ → ℕ → ℕ → ℕ → Spelt
 step_of kind f i a m =
     cond (eqb kind 1) (spelt_if (all_zero f 0 a m) (Branch i))
-    (cond (eqb kind 2) (One (Shift (Project f i a m)))
-    (cond (eqb kind 3) (One (Shift (Extend f i a m)))
+    (cond (eqb kind 2) (Some (Shift (Project f i a m)))
+    (cond (eqb kind 3) (Some (Shift (Extend f i a m)))
     (cond (eqb kind 4) (spelt_if (all_zero f 0 a 0) (Shift (Raise i m)))
     (cond (eqb kind 5) (spelt_if (all_zero f i a m) Close)
-    Nothing))))
+    None))))
 
 -- the step whose first word is word w of a record with these words
 abbrev pub step_at : (ℕ → ℕ) → ℕ → Spelt

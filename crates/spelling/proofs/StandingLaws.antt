@@ -1,16 +1,8 @@
 -- Laws of the place in a record's tree: what a branch leaves, and what turning back leaves. Assumes nothing.
-use Prim.Native.Nat.{ℕ, zero, suc, ◌+◌, ◌-◌, ◌≤◌, ◌<◌}
-use mathlib.Core.Path.{◌≡◌, refl, sym, ap, subst⁻¹, fun_ext, ◌∙◌}
-use mathlib.Core.Bool.{Bool, true, false, cond}
-use mathlib.Core.Logic.{◌≢◌}
-use mathlib.Core.List.{List, [], ◌∷◌}
-use native.Mathlib.Omega.{arith}
-use native.Mathlib.Nat.{add-zero, add-suc, suc-add, zero-add}
-use native.Mathlib.Numerals.{add-one}
-use native.Mathlib.Decide.{ℕ_discrete}
-use lib.Dec.{T, eqb, ltb, eqb→eq, eqb_refl, lt→ltb}
-use lib.ListN.{length, get_or, set}
-use lib.Seq.{get_or-set_same, get_or-set_other}
+use Rattle.std.proofs.Common.{ℕ, zero, suc, ◌+◌, ◌-◌, ◌≤◌, ◌<◌, ◌≡◌, refl, sym, ap, ◌∙◌, Bool, true, false, cond, ◌≢◌, List, [], ◌∷◌, arith, add-zero, add-suc, suc-add, zero-add, add-one, T, eqb, ltb, eqb→eq, lt→ltb, length, get_or, set, get_or-set_same, get_or-set_other}
+use Rattle.std.proofs.Math.Path.{subst⁻¹, fun_ext}
+use Rattle.std.proofs.Math.Decide.{ℕ_discrete}
+use Rattle.std.proofs.Math.Dec.{eqb_refl}
 use Rattle.costs.specs.Limits.{vars_most}
 use Rattle.costs.specs.Range.{sum_to}
 use Rattle.costs.specs.Net.{Net}

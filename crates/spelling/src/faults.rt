@@ -1,8 +1,4 @@
 // Where a record breaks a rule.
 
-#[derive(Clone, Copy)]
-pub enum Fault {
-    Nowhere,
-    // the number of the word
-    At(usize),
-}
+// Err is the number of the word at which it does.
+pub type Kept = Result<(), usize>;

@@ -6,9 +6,9 @@ ghost use Rattle.records.specs.Trees.{children};
 ghost use Rattle.spelling.specs.Ties.Standing.{Upright, LeadsTo, said, node_at, pending_at, root_place};
 
 use costs::limits::VARS;
-use costs::networks::byte_at;
+use costs::networks::Network;
 
-#[derive(Drop)]
+#[derive(Clone, Copy, Debug, PartialEq, Eq)]
 pub struct Place {
     // the node: 0 where a variable is free, v + 1 where it is fixed to v
     pub fixed: [u8; VARS],
@@ -16,7 +16,7 @@ pub struct Place {
     pub order: [u8; VARS],
     // how many there are
     pub depth: usize,
-    // the tree is closed, and there is no node
+    // the tree is closed, and there is no node. The place is no Option in its stead: a step that is taken would hand back an Option of an Option
     pub over: bool,
     // the node has had a shift
     pub begun: bool,
@@ -24,71 +24,69 @@ pub struct Place {
     pub constant: u64,
 }
 
-// The root of a tree.
-pub fn root_place(constant: u64) -> Place
-    ensures { result ≡ root_place constant }
-{
-    Place {
-        fixed: [0u8; VARS],
-        order: [0u8; VARS],
-        depth: 0,
-        over: false,
-        begun: false,
-        constant: constant,
-    }
-}
-
-// A free variable is branched: the next node is that of its first value.
-pub fn branched(place: Place, sizes: &[u8; VARS], vars: usize, i: usize) -> Place
-    requires { Upright vars (sizes_of sizes.now) place × (i < vars) × (vars ≤ vars_most) × (said place i ≡ 0) × (0 < get_or sizes.now i 0) }
-    ensures { LeadsTo vars (sizes_of sizes.now) (children (node_at (sizes_of sizes.now) place) i (get_or sizes.now i 0) (pending_at (sizes_of sizes.now) place)) false place.constant result }
-{
-    let mut fixed = place.fixed;
-    let mut order = place.order;
-    let depth = place.depth;
-    fixed[i] = 1;
-    order[depth] = i as u8;
-    Place {
-        fixed: fixed,
-        order: order,
-        depth: depth + 1,
-        over: false,
-        begun: false,
-        constant: place.constant,
-    }
-}
-
-// The node is closed: back to the last branch with a value left, and on to that value's node.
-pub fn turned_back(place: Place, sizes: &[u8; VARS], vars: usize, constant: u64) -> Place
-    requires { Upright vars (sizes_of sizes.now) place × (vars ≤ vars_most) × ((v : ℕ) → v < vars → get_or sizes.now v 0 ≤ size_most) }
-    ensures { LeadsTo vars (sizes_of sizes.now) (pending_at (sizes_of sizes.now) place) false constant result }
-{
-    let mut fixed = place.fixed;
-    let order = place.order;
-    let mut depth = place.depth;
-    while 0 < depth {
-        let i = byte_at(&order, depth - 1);
-        let next = byte_at(&fixed, i);
-        if next < byte_at(sizes, i) {
-            fixed[i] = (next + 1) as u8;
-            return Place {
-                fixed: fixed,
-                order: order,
-                depth: depth,
-                over: false,
-                begun: false,
-                constant: constant,
-            };
+impl Place {
+    // The root of a tree.
+    pub fn root(constant: u64) -> Place
+        ensures { result ≡ root_place constant }
+    {
+        Place {
+            fixed: [0; VARS],
+            order: [0; VARS],
+            depth: 0,
+            over: false,
+            begun: false,
+            constant,
         }
-        fixed[i] = 0;
-        depth -= 1;
     }
-    Place {
-        fixed: fixed,
-        order: order,
-        depth: 0,
-        over: true,
-        begun: false,
-        constant: constant,
+
+    // A free variable is branched: the next node is that of its first value.
+    pub fn branched(self, net: &Network, i: usize) -> Place
+        requires upright { Upright net.now.vars (sizes_of net.now.sizes) self }
+        requires variable { (i < net.now.vars) × (net.now.vars ≤ vars_most) × (said self i ≡ 0) × (0 < get_or net.now.sizes i 0) }
+        ensures { LeadsTo net.now.vars (sizes_of net.now.sizes) (children (node_at (sizes_of net.now.sizes) self) i (get_or net.now.sizes i 0) (pending_at (sizes_of net.now.sizes) self)) false self.constant result }
+    {
+        let mut next = Place {
+            depth: self.depth + 1,
+            over: false,
+            begun: false,
+            ..self
+        };
+        next.fixed[i] = 1;
+        // `u8` has no `From<usize>`
+        next.order[self.depth] = i as u8;
+        next
+    }
+
+    // The node is closed: back to the last branch with a value left, and on to that value's node, which starts from the held costs.
+    pub fn turned_back(self, net: &Network) -> Place
+        requires upright { Upright net.now.vars (sizes_of net.now.sizes) self }
+        requires few { net.now.vars ≤ vars_most }
+        requires small { (v : ℕ) → v < net.now.vars → get_or net.now.sizes v 0 ≤ size_most }
+        ensures { LeadsTo net.now.vars (sizes_of net.now.sizes) (pending_at (sizes_of net.now.sizes) self) false net.now.constant result }
+    {
+        let mut fixed = self.fixed;
+        for level in (0..self.depth).rev() {
+            let i = usize::from(self.order[level]);
+            if usize::from(fixed[i]) < net.size(i) {
+                fixed[i] += 1;
+                return Place {
+                    fixed,
+                    depth: level + 1,
+                    over: false,
+                    begun: false,
+                    constant: net.constant,
+                    ..self
+                };
+            }
+            fixed[i] = 0;
+        }
+        Place {
+            fixed,
+            depth: 0,
+            over: true,
+            begun: false,
+            constant: net.constant,
+            ..self
+        }
     }
 }

@@ -1,7 +1,5 @@
-use mathlib.Core.Path.{refl}
-use Rattle.records.specs.declared.steps.Step.TheVariants.{Close}
 use Rattle.recorder.proofs.SpliceLaws.{adds_then}
 use Rattle.recorder.proofs.note_close.Goals as goal
 
 pub returns : goal.returns
-returns c = adds_then _ _ _ _ _ _ _ _ c.note_shifts-next.ensures (c.note_step.ensures Close refl)
+returns c = adds_then _ _ _ _ _ _ _ _ c.note_shifts-next.ensures c.note_step.ensures

@@ -1,14 +1,9 @@
-use Prim.Native.Nat.{◌≤◌, ◌-◌}
-use mathlib.Core.Path.{◌≡◌}
-use lib.ListN.{length}
-use Rattle.recorder.specs.Ties.Splicing.{spliced, header_bytes}
-use Rattle.records.specs.Words.{bytes_of}
+use Rattle.std.proofs.Common.{◌≡◌}
 use Rattle.costs.specs.Cheapest.{value_in}
 use Rattle.costs.specs.Range.{list_to}
+use Rattle.records.specs.Words.{bytes_of}
+use Rattle.recorder.specs.Ties.Splicing.{spliced, header_bytes}
 use Rattle.recorder.proofs.put_values.Given as goal
 
 abbrev pub invariant-loop-v : goal.invariant-loop-v
-invariant-loop-v l = (l.v ≤ l.vars) × (length l.out ≡ length l.initial.out) × (l.out ≡ spliced header_bytes (bytes_of (list_to l.v (value_in l.plan))) l.initial.out)
-
-abbrev pub decreases-loop-v : goal.decreases-loop-v
-decreases-loop-v l = l.vars - l.v
+invariant-loop-v l = l.out ≡ spliced header_bytes (bytes_of (list_to l.v (value_in l.plan))) l.initial.out

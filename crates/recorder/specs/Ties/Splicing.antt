@@ -1,12 +1,11 @@
 -- Ties: bytes written into a buffer, and where the record stands in it.
-use Rattle.std.specs.Prelude.{ℕ, ◌+◌, ◌-◌, ◌*◌, ◌≤◌, ◌<◌, ◌≡◌, Bool, true, false, cond, List, ◌++◌, leb, length, take, drop, replicate}
+use Rattle.std.specs.Prelude.{ℕ, ◌+◌, ◌-◌, ◌*◌, ◌≤◌, ◌<◌, ◌≡◌, Bool, cond, Option, Some, None, IfSome, List, ◌++◌, leb, length, take, drop, replicate}
 use Rattle.records.specs.declared.steps.Step.{Step}
 use Rattle.records.specs.Words.{word_bytes, bytes_of}
 use Rattle.records.specs.Steps.{step_words, spell}
 use Rattle.records.specs.Records.{header_words}
 use Rattle.costs.specs.Cheapest.{value_in}
 use Rattle.costs.specs.Range.{list_to}
-use Rattle.recorder.specs.declared.Spot.{Spot}
 
 -- the buffer with xs at `at`
 unfoldable pub spliced : ℕ → List ℕ → List ℕ → List ℕ
@@ -29,14 +28,18 @@ pub record HoldsSteps (out : List ℕ) (at : ℕ) (steps : List Step) : Type 0 w
 abbrev pub TooLong : List ℕ → List Step → Type 0
 TooLong out steps = length out < header_bytes + step_bytes * length steps
 
+-- where the next step goes, or that there was no room for one
+abbrev pub Spot : Type 0
+Spot = Option ℕ
+
 -- what a spot says of the steps of a record being written
-pub record Written (out : List ℕ) (spot : Spot) (steps : List Step) : Type 0 where
-  pub there : spot.full ≡ false → HoldsSteps out spot.at steps
-  pub over : spot.full ≡ true → TooLong out steps
+abbrev pub Written : List ℕ → Spot → List Step → Type 0
+Written out None steps = TooLong out steps
+Written out (Some at) steps = HoldsSteps out at steps
 
 -- where there was room for every step, the spot lies in the buffer, behind a header
 abbrev pub Behind : List ℕ → Spot → Type 0
-Behind out spot = spot.full ≡ false → (header_bytes ≤ spot.at) × (spot.at ≤ length out)
+Behind out spot = IfSome spot (λ at. (header_bytes ≤ at) × (at ≤ length out))
 
 -- from one buffer and spot to another, these steps were added, whatever stood there before
 abbrev pub Adds : List ℕ → Spot → List ℕ → Spot → List Step → Type 0

@@ -1,18 +1,19 @@
-use Rattle.desk.proofs.RecordLaws.{checked_refused, checked_record, checked_ready}
-use lib.ListN.{length}
-use mathlib.Core.Path.{sym, ◌∙◌}
+use Rattle.judging.proofs.JudgeLaws.{judged_room}
+use Rattle.desk.proofs.RecordLaws.{answered_by, checked_refused, checked_record}
+use Rattle.std.proofs.Common.{◌≡◌, ◌∙◌, length, min, arith}
 use Rattle.desk.proofs.checking.answered.Goals as goal
 
-pub returns-in-Refused : goal.returns-in-Refused
-returns-in-Refused c = let s = c.args in
-    c.refusal.ensures
-    ∙ checked_refused (record { top = s.top; constant = s.constant; vars = s.vars; sizes = s.sizes.now; functions = s.functions; scopes = s.scopes.now; starts = s.starts.now }) s.held.now (length s.work.now) _ s.bytes.now c.shorter-room.ensures _ (sym c.judge.ensures ∙ c.in-Refused.is)
+pub returns-in_err-judged : goal.returns-in_err-judged
+returns-in_err-judged c = let s = c.args in
+    let least : c.min.result ≡ min (length s.held.now) (length s.work.now) = c.min.ensures in
+    checked_refused s.net.now s.held.now (length s.work.now) s.bytes.now _ c.from_residual.result c.from_residual.ensures.1 (rw least at c.in_err-judged.ensures.value)
 
-pub bytes_fault-fault-requires : goal.bytes_fault-fault-requires
-bytes_fault-fault-requires c = let s = c.args in
-    checked_ready (record { top = s.top; constant = s.constant; vars = s.vars; sizes = s.sizes.now; functions = s.functions; scopes = s.scopes.now; starts = s.starts.now }) s.held.now (length s.work.now) _ s.bytes.now c.shorter-room.ensures _ (sym c.judge.ensures ∙ c.in-Fit.is)
+pub bytes_fault-requires : goal.bytes_fault-requires
+bytes_fault-requires c = let room = judged_room _ _ _ c.in_ok-judged.judged c.in_ok-judged.ensures.value in
+    record { working = omega (arith, room, c.min.ensures); holding = omega (arith, room, c.min.ensures) }
 
 pub returns : goal.returns
 returns c = let s = c.args in
-    c.answer_to.ensures
-    ∙ checked_record (record { top = s.top; constant = s.constant; vars = s.vars; sizes = s.sizes.now; functions = s.functions; scopes = s.scopes.now; starts = s.starts.now }) s.held.now (length s.work.now) _ s.bytes.now c.shorter-room.ensures _ _ (sym c.judge.ensures ∙ c.in-Fit.is) c.bytes_fault-fault.ensures
+    let least : c.min.result ≡ min (length s.held.now) (length s.work.now) = c.min.ensures in
+    answered_by c.bytes_fault.result c.map_err.result _ (λ w x h. h) c.map_err.ensures.cases
+    ∙ checked_record s.net.now s.held.now (length s.work.now) s.bytes.now _ c.bytes_fault.result (rw least at c.in_ok-judged.ensures.value) (rw c.in_ok-judged.ensures.network at c.bytes_fault.ensures)

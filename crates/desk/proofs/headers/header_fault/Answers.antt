@@ -1,13 +1,13 @@
-use Rattle.desk.proofs.HeaderLaws.{count_most, header_claim, header_shape}
+use Rattle.desk.proofs.HeaderLaws.{header_claim, header_shape}
 use Rattle.records.specs.Words.{word_at}
-use native.Mathlib.Omega.{arith}
+use Rattle.std.proofs.Common.{◌≡◌, ◌∙◌, Err, rules}
+use Rattle.spelling.specs.Spelling.{Kept}
 use Rattle.desk.proofs.headers.header_fault.Goals as goal
 
-pub returns-in-At : goal.returns-in-At
-returns-in-At c = let s = c.args in header_claim s.top s.vars (word_at s.bytes.now) s.words _ c.claim_fault.ensures _ c.in-At.is
-
-pub shape_fault-requires : goal.shape_fault-requires
-shape_fault-requires c = let s = c.args in (omega (arith, c.requires, c.values_of-count.ensures, count_most s.vars (word_at s.bytes.now)), omega (arith, c.requires))
+pub returns-in_err-claim_fault : goal.returns-in_err-claim_fault
+returns-in_err-claim_fault c = let s = c.args in
+    let out : ◌≡◌ {A = Kept} c.from_residual.result (Err c.in_err-claim_fault.field-0.0) = search rules in
+    out ∙ header_claim s.net.now.top s.net.now.vars (word_at s.bytes.now) s.words _ c.claim_fault.ensures _ c.in_err-claim_fault.was
 
 pub returns : goal.returns
-returns c = let s = c.args in header_shape s.top s.vars (word_at s.bytes.now) s.words _ c.claim_fault.ensures c.in_default.is _ c.values_of-count.ensures _ c.shape_fault.ensures
+returns c = let s = c.args in header_shape s.net.now.top s.net.now.vars (word_at s.bytes.now) s.words _ c.claim_fault.ensures c.in_ok-claim_fault.was _ c.values_of.ensures _ c.shape_fault.ensures

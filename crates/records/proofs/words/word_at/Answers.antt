@@ -1,5 +1,6 @@
-use Rattle.records.proofs.WordLaws.{word_halves}
+use Rattle.std.proofs.Common.{◌∙◌}
+use Rattle.records.proofs.WordLaws.{word_read}
 use Rattle.records.proofs.words.word_at.Goals as goal
 
 pub returns : goal.returns
-returns c = word_halves _ _ _ _ c.half_at-low.ensures.0 c.half_at-high.ensures.0
+returns c = rw c.copy_from_slice.ensures.after at c.from_le_bytes.ensures ∙ word_read c.args.bytes.now c.args.w

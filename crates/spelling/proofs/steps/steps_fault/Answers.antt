@@ -1,85 +1,56 @@
-use Rattle.spelling.proofs.SteppingLaws.{stands-root, stands_next, steps_after, steps_unspelt, steps_refused, steps_closed, steps_open}
-use Rattle.spelling.specs.Ties.Stepping.{held_claim}
-use Rattle.records.specs.Steps.{step_at}
+use Rattle.spelling.proofs.SteppingLaws.{refused_for, stands-root, stands_after, stands_unspelt, stands_refused, stands_next, stands_closed, stands_open}
+use Rattle.spelling.specs.Ties.Stepping.{claim_in}
+use Rattle.records.specs.Steps.{step_words, step_at}
 use Rattle.records.specs.Words.{word_at}
-use borrow.Author.Tests.{not-true, not-false}
-use native.Mathlib.Omega.{arith}
-use mathlib.Core.Path.{◌≡◌, refl, sym, ◌∙◌}
-use borrow.Author.Rules.{rules}
+use Rattle.std.specs.Result.{result_ok}
+use Rattle.std.proofs.Common.{None, ◌≡◌, ◌+◌, ◌-◌, ◌*◌, refl, sym, ap, ◌∙◌, arith, rules}
 use Rattle.spelling.proofs.steps.steps_fault.Goals as goal
 
-pub loop-left-init : goal.loop-left-init
-loop-left-init c = let s = c.args in
-    let r = held_claim s.o s.sizes.now s.scopes.now s.held.now s.cost in
-    let at = step_at (word_at s.bytes.now) in
-    (search rules, search rules, rw c.root_place-place.ensures (stands-root r at s.steps s.from s.o.constant s.work.now refl (λ j l. sym (c.requires.by_index j (omega (arith, c.requires.at_work.ready.entries_is))))))
-
-pub returns-then-place : goal.returns-then-place
-returns-then-place c = let s = c.args in
-    let r = held_claim s.o s.sizes.now s.scopes.now s.held.now s.cost in
-    let at = step_at (word_at s.bytes.now) in
-    let k = c.loop-left in
-    let h = k.invariant.2 in
-    steps_after r at k.left k.w k.place h.costs c.loop-left-test.true c.if-place.true ∙ sym h.same
-
-pub step_at-requires : goal.step_at-requires
-step_at-requires c = omega (arith, c.loop-left.invariant.1, c.requires.word_bytes_in_bounds)
-
-pub returns-in-Nothing : goal.returns-in-Nothing
-returns-in-Nothing c = let s = c.args in
-    let r = held_claim s.o s.sizes.now s.scopes.now s.held.now s.cost in
-    let at = step_at (word_at s.bytes.now) in
-    let k = c.loop-left in
-    let h = k.invariant.2 in
-    steps_unspelt r at k.left k.w k.place h.costs c.loop-left-test.true c.if-place.false (sym c.step_at.ensures ∙ c.in-Nothing.is) ∙ sym h.same
-
-pub take_step-taken-requires : goal.take_step-taken-requires
-take_step-taken-requires c = let s = c.args in
-    let r = held_claim s.o s.sizes.now s.scopes.now s.held.now s.cost in
-    let at = step_at (word_at s.bytes.now) in
-    let k = c.loop-left in
-    let h = k.invariant.2 in
+pub loop-step-init : goal.loop-step-init
+loop-step-init c = let s = c.args in
+    let judged = s.claimed.judged.now in
+    let first : s.from + 0 ≡ s.from = omega arith in
+    let whole : s.steps - 0 ≡ s.steps = omega arith in
     record {
-      at_work = record { ready = c.requires.at_work.ready; first = c.requires.at_work.first; roomy = omega (arith, c.requires.at_work.roomy, k.invariant.0); held_whole = c.requires.at_work.held_whole };
-      upright = (h.upright, c.if-place.false);
+      roomy = refl;
+      stands = rw (c.root-place.ensures, first, whole) (stands-root (claim_in s.claimed) (step_at (word_at s.bytes.now)) s.steps s.from judged.network.constant s.work.now refl (λ j l. sym (c.requires.by_index j (omega (arith, judged.whole, judged.ready.entries_is)))));
     }
 
-pub returns-then-not-taken : goal.returns-then-not-taken
-returns-then-not-taken c = let s = c.args in
-    let r = held_claim s.o s.sizes.now s.scopes.now s.held.now s.cost in
-    let at = step_at (word_at s.bytes.now) in
-    let k = c.loop-left in
-    let h = k.invariant.2 in
-    let took = c.take_step-taken.ensures h.costs h.follows in
-    steps_refused r at k.left k.w k.place h.costs c.loop-left-test.true c.if-place.false _ (sym c.step_at.ensures ∙ c.in-One.is) (sym took.allowed_is ∙ not-true _ c.if-not-taken.true) ∙ sym h.same
+pub returns-then-place : goal.returns-then-place
+returns-then-place c = stands_after _ _ _ _ _ _ _ c.loop-step.invariant.stands (omega arith) c.if-place.true
 
-pub overflow_add-w : goal.overflow_add-w
-overflow_add-w c = omega (arith, c.loop-left.invariant.1, c.requires.word_bytes_in_bounds, c.well_formed.1.1.0)
+pub returns-in_err-one : goal.returns-in_err-one
+returns-in_err-one c = let s = c.args in
+    let none : c.step_at.result ≡ None = c.ok_or.ensures.ok_part ∙ ap result_ok c.in_err-one.was in
+    refused_for none c.ok_or.ensures.value c.in_err-one.was (search rules) ∙ stands_unspelt _ _ _ _ _ _ _ c.loop-step.invariant.stands (omega arith) c.if-place.false (sym c.step_at.ensures ∙ none)
 
-pub loop-left-smaller : goal.loop-left-smaller
-loop-left-smaller c = omega arith
+pub returns-in_err-place : goal.returns-in_err-place
+returns-in_err-place c = let s = c.args in
+    let k = c.loop-step in
+    let h = k.invariant.stands in
+    let none : c.take_step.result ≡ None = c.ok_or-in-loop-step.ensures.ok_part ∙ ap result_ok c.in_err-place.was in
+    refused_for none c.ok_or-in-loop-step.ensures.value c.in_err-place.was (search rules) ∙ stands_refused _ _ _ _ _ _ _ h (omega arith) c.if-place.false c.in_ok-one.one (sym c.step_at.ensures ∙ c.in_ok-one.ensures.ok_part) c.take_step.new.work (rw none at (c.take_step.ensures h.costs h.follows))
 
-pub loop-left-preserved : goal.loop-left-preserved
-loop-left-preserved c = let s = c.args in
-    let r = held_claim s.o s.sizes.now s.scopes.now s.held.now s.cost in
-    let at = step_at (word_at s.bytes.now) in
-    let k = c.loop-left in
-    let h = k.invariant.2 in
-    let took = c.take_step-taken.ensures h.costs h.follows in
-    (omega (arith, k.invariant.0, c.take_step-taken.auto.work), omega (arith, k.invariant.1), stands_next r at _ k.left k.w k.place _ _ h c.loop-left-test.true c.if-place.false _ (sym c.step_at.ensures ∙ c.in-One.is) _ took (not-false _ c.if-not-taken.false))
+pub loop-step-preserved : goal.loop-step-preserved
+loop-step-preserved c = let s = c.args in
+    let k = c.loop-step in
+    let h = k.invariant.stands in
+    let left : s.steps - (k.step + 1) ≡ s.steps - k.step - 1 = omega arith in
+    let w : s.from + step_words * (k.step + 1) ≡ s.from + step_words * k.step + step_words = omega arith in
+    record {
+      roomy = omega (arith, k.invariant.roomy, c.take_step.auto.work);
+      stands = rw (left, w) (stands_next _ _ _ _ _ _ _ h (omega arith) c.if-place.false c.in_ok-one.one (sym c.step_at.ensures ∙ c.in_ok-one.ensures.ok_part) c.take_step.new.work _ (rw c.in_ok-place.ensures.ok_part at (c.take_step.ensures h.costs h.follows)));
+    }
 
 pub returns-then-place-2 : goal.returns-then-place-2
 returns-then-place-2 c = let s = c.args in
-    let r = held_claim s.o s.sizes.now s.scopes.now s.held.now s.cost in
-    let at = step_at (word_at s.bytes.now) in
-    let k = c.loop-left in
-    let h = k.invariant.2 in
-    let e : k.left ≡ 0 = omega arith in steps_closed r at k.w k.place h.costs c.if-place-2.true ∙ sym (rw e at h.same)
+    let k = c.loop-step in
+    let e : s.steps - k.step ≡ 0 = omega arith in
+    stands_closed _ _ _ _ _ _ (rw e at k.invariant.stands) c.if-place-2.true
 
-pub returns : goal.returns
-returns c = let s = c.args in
-    let r = held_claim s.o s.sizes.now s.scopes.now s.held.now s.cost in
-    let at = step_at (word_at s.bytes.now) in
-    let k = c.loop-left in
-    let h = k.invariant.2 in
-    let e : k.left ≡ 0 = omega arith in steps_open r at k.w k.place h.costs c.if-place-2.false ∙ sym (rw e at h.same)
+pub returns-else-place-2 : goal.returns-else-place-2
+returns-else-place-2 c = let s = c.args in
+    let k = c.loop-step in
+    let e : s.steps - k.step ≡ 0 = omega arith in
+    let q : k.step ≡ s.steps = omega arith in
+    stands_open _ _ _ _ _ _ (rw (e, q) at k.invariant.stands) c.if-place-2.false
