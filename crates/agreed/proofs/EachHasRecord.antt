@@ -1,8 +1,5 @@
 -- "each network of at most 4,294,967,296 plans has such a record": of the numbers and the table that calls are lent. Assumes nothing.
-use Prim.Native.Nat.{ℕ, ◌^◌, ◌≤◌}
-use mathlib.Core.List.{List}
-use native.Mathlib.Omega.{arith}
-use lib.ListN.{length}
+use Rattle.std.proofs.Common.{ℕ, ◌^◌, ◌≤◌, List, arith, length}
 use Rattle.costs.specs.declared.networks.Network.{Network}
 use Rattle.costs.specs.Net.{costs_of, plans}
 use Rattle.costs.specs.Networks.{outline_of, stands}

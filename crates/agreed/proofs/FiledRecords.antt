@@ -1,20 +1,14 @@
 -- A successful search leaves a record that the desk accepts. Assumes nothing.
-use Prim.Native.Nat.{ℕ, ◌+◌, ◌-◌, ◌*◌, ◌^◌, ◌≤◌, ◌<◌}
-use mathlib.Core.Path.{◌≡◌, sym, ap, ◌∙◌, subst, fun_ext}
-use mathlib.Core.Bool.{true}
-use mathlib.Core.List.{List}
-use native.Mathlib.Omega.{arith}
-use lib.ListN.{length, take, drop, replicate, length-append}
-use lib.Seq.{take_at}
+use Rattle.std.proofs.Common.{ℕ, ◌-◌, ◌*◌, ◌^◌, ◌≤◌, ◌<◌, ◌≡◌, sym, ap, ◌∙◌, subst, true, List, arith, length, replicate}
+use Rattle.std.proofs.Math.Path.{fun_ext}
 use Rattle.costs.specs.declared.networks.Network.{Network}
-use Rattle.answers.specs.declared.Answer.TheVariants.{Done}
+use Rattle.answers.specs.Answers.{Done}
 use Rattle.costs.specs.Net.{Net, Costs, All, costs_of}
 use Rattle.costs.specs.Networks.{stands}
 use Rattle.judging.proofs.JudgeLaws.{network_sound}
 use Rattle.records.specs.Words.{word_bytes, tells, bytes_of}
 use Rattle.records.specs.Records.{header_words, KeepsRules, KeptBy}
 use Rattle.records.proofs.WordLaws.{bytes_of_many, bytes_tell}
-use Rattle.desk.specs.Checking.{checked}
 use Rattle.desk.proofs.CheckIsTheRules.{kept_accepted}
 use Rattle.engines.specs.declared.results.Searched.{Searched}
 use Rattle.engines.specs.Results.{SearchLeft}
@@ -23,7 +17,7 @@ use Rattle.search.specs.Doors.{search_leaves, whole_record, CountsSteps}
 use Rattle.search.proofs.WholeSearch.{whole_answer, whole_keeps}
 use Rattle.search.proofs.SearchIsRight.{done_right}
 use Rattle.search.proofs.RecordLeft.{whole_record_words, words_count, record_left, words_fit, word-left, count_own}
-use Rattle.agreed.specs.Filed.{Filed, size_told}
+use Rattle.agreed.specs.Filed.{Filed}
 use Rattle.agreed.proofs.WrittenRecords.{written_keeps}
 
 pub kept_bytes : (n : Net) (held : Costs) (ws : List ℕ) → All (λ w. w < 2 ^ 64) ws → header_words ≤ length ws → KeepsRules n held (tells ws) (length ws) → KeptBy n held (bytes_of ws)
@@ -61,13 +55,3 @@ filed_after net held work out work' o limit r l few e d =
       subst (λ (m : ℕ). Filed net held m o) (sym l) (subst (λ (x : SearchLeft). Filed net held work x.out) (sym e) (filed net held work out limit few done)),
       subst (λ (x : SearchLeft). CountsSteps x.out x.result.nodes) (sym e) (count_own net held work out limit few done),
     )
-
--- where such a record ends, and what the desk answers to it
-module _ (net : Network) (held : List ℕ) (room : ℕ) (out : List ℕ) (f : Filed net held room out) where
-  pub filed_inside : (header_words * word_bytes ≤ length out) × (size_told out ≤ length out)
-  filed_inside = let e : length out ≡ length f.bytes + length f.behind = ap length f.there ∙ length-append f.bytes f.behind in (omega (arith, e, f.header), omega (arith, e, f.size))
-
-  pub filed_answer : (size : ℕ) (part : List ℕ) → size ≡ size_told out → part ≡ take (size - 0) (drop 0 out) → checked net held room part ≡ Done
-  filed_answer size part e p =
-      let q : part ≡ f.bytes = p ∙ ap (λ (l : List ℕ). take (size - 0) l) f.there ∙ take_at f.bytes f.behind (size - 0) (omega (arith, e, f.size)) in
-      ap (λ (l : List ℕ). checked net held room l) q ∙ f.accepted

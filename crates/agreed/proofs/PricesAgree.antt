@@ -1,12 +1,7 @@
 -- What `price` answers after `read`, after `shift` or `pass`, and after `search`, as a user of these calls sees it. Assumes nothing.
-use Prim.Native.Nat.{ℕ, ◌<◌}
-use mathlib.Core.Path.{◌≡◌, sym, ap, ◌∙◌, subst}
-use mathlib.Core.Bool.{Bool}
-use mathlib.Core.Logic.{inl, inr}
-use mathlib.Core.List.{List}
-use native.Mathlib.Omega.{arith}
-use lib.ListN.{get_or-append}
-use Rattle.answers.specs.declared.Answer.TheVariants.{Done}
+use Rattle.std.proofs.Common.{ℕ, ◌<◌, ◌≡◌, sym, ap, ◌∙◌, subst, Bool, inl, inr, List, arith}
+use Rattle.std.proofs.Math.ListN.{get_or-append}
+use Rattle.answers.specs.Answers.{Done}
 use Rattle.costs.specs.declared.networks.Network.{Network}
 use Rattle.costs.specs.declared.plans.Plan.{Plan}
 use Rattle.costs.specs.Net.{IsPlan, costs_of}

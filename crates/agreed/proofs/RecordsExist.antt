@@ -1,14 +1,9 @@
 -- Each network of few enough plans has a record that keeps the rules, of words that fit and that are not too many. Assumes nothing.
-use Prim.Native.Nat.{ℕ, suc, ◌+◌, ◌*◌, ◌^◌, ◌≤◌, ◌<◌}
-use mathlib.Core.Path.{◌≡◌, refl}
-use mathlib.Core.List.{[], ◌∷◌, ◌++◌, map}
-use native.Mathlib.Omega.{arith}
-use native.Mathlib.Nat.{mul-le-mul}
-use lib.Dec.{leb, ltb}
-use Rattle.answers.specs.declared.Answer.TheVariants.{Done}
+use Rattle.std.proofs.Common.{ℕ, suc, ◌+◌, ◌*◌, ◌^◌, ◌≤◌, ◌<◌, ◌≡◌, refl, [], ◌∷◌, ◌++◌, map, arith, mul-le-mul, leb, ltb, length, length-append}
+use Rattle.answers.specs.Answers.{Done}
 use Rattle.costs.specs.Range.{first_to}
 use Rattle.costs.specs.Limits.{vars_most, size_most, functions_most, cost_most, arity_most}
-use lib.ListN.{length, length-append, length-map}
+use Rattle.std.proofs.Math.ListN.{length-map}
 use Rattle.costs.specs.Net.{Net, Costs, Sound, plans}
 use Rattle.passes.specs.Passing.{pass, Within}
 use Rattle.records.specs.Trees.{TreeNode, root}

@@ -1,12 +1,6 @@
 -- The record of a right answer, with steps that keep the rules, keeps the rules word by word, whoever wrote it. Assumes nothing.
-use Prim.Native.Nat.{ℕ, ◌+◌, ◌<◌}
-use mathlib.Core.Path.{◌≡◌, refl, ◌∙◌}
-use mathlib.Core.Logic.{◌⊎◌, inl, inr}
-use mathlib.Core.List.{List, ◌++◌}
-use native.Mathlib.Omega.{arith}
-use lib.Dec.{ltb, ltb→lt, lt→ltb}
-use lib.ListN.{length, length-append, get_or-append}
-use lib.Seq.{get_or-append-add}
+use Rattle.std.proofs.Common.{ℕ, ◌+◌, ◌<◌, ◌≡◌, refl, ◌∙◌, ◌⊎◌, inl, inr, List, ◌++◌, arith, ltb, ltb→lt, lt→ltb, length, length-append, get_or-append-add}
+use Rattle.std.proofs.Math.ListN.{get_or-append}
 use Rattle.costs.proofs.TestLaws.{is_true, is_false}
 use Rattle.costs.specs.Net.{Net, Costs, Sound}
 use Rattle.costs.proofs.NetLaws.{price-same}

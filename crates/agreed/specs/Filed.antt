@@ -1,7 +1,7 @@
 -- Records that the desk accepts: in the buffer that was lent for one, and as bytes.
 use Rattle.std.specs.Prelude.{ℕ, ◌+◌, ◌*◌, ◌^◌, ◌≤◌, ◌<◌, ◌≡◌, List, ◌++◌, length}
 use Rattle.costs.specs.declared.networks.Network.{Network}
-use Rattle.answers.specs.declared.Answer.TheVariants.{Done}
+use Rattle.answers.specs.Answers.{Done}
 use Rattle.costs.specs.Net.{All, costs_of}
 use Rattle.costs.specs.Networks.{stands}
 use Rattle.records.specs.Words.{word_bytes, word_at}

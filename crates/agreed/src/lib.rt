@@ -2,14 +2,14 @@
 #![tactic(auto)]
 
 ghost use Rattle.std.specs.Prelude.{◌≡◌, ℕ, ◌+◌, ◌*◌, ◌≤◌, true, length, get_or};
-ghost use Rattle.answers.specs.declared.Answer.TheVariants.{Done};
+ghost use Rattle.answers.specs.Answers.{Done};
 ghost use Rattle.records.specs.Words.{word_bytes};
 ghost use Rattle.records.specs.Records.{header_words};
 ghost use Rattle.engines.specs.Results.{SearchLeft};
 ghost use Rattle.search.specs.Doors.{search_leaves, CountsSteps};
 ghost use Rattle.agreed.specs.Filed.{size_told, Filed};
 
-use answers::{Answer, number};
+use answers::Answer;
 use costs::networks::Network;
 use desk::check;
 use engines::results::Searched;
@@ -17,7 +17,8 @@ use records::layout::{STEP_WORDS, WORD_BYTES};
 use records::words::word_at;
 use search::search;
 
-#[derive(Drop)]
+// No `Result`: the promise of `search_and_check` speaks of both fields, also beside a refusal.
+#[derive(Clone, Copy, Debug, PartialEq, Eq)]
 pub struct Checked {
     pub found: Searched,
     // the desk's answer to the record; where the search was refused there is none, and its refusal stands here
@@ -35,23 +36,17 @@ pub fn search_and_check(
     ensures { (record { result = result.found; out = out.new } ≡ search_leaves net held.now (length work.old) (length out.old) true budget) × (result.answer ≡ result.found.answer) × (result.found.answer ≡ Done → Filed net held.now (length work.old) out.new × CountsSteps out.new result.found.nodes) × ((j : ℕ) → get_or work.new j 0 ≡ 0) }
 {
     let found = search(net, held, work, out, true, budget);
-    let said = found.answer;
-    let answer = desk_answer(net, held, work, out, said);
-    Checked {
-        found: found,
-        answer: answer,
-    }
+    let answer = desk_answer(net, held, work, out, found.answer);
+    Checked { found, answer }
 }
 
 fn desk_answer(net: Network, held: &[u64], work: &mut [u64], out: &[u8], said: Answer) -> Answer
     requires { said ≡ Done → Filed net held.now (length work.old) out.now }
     ensures { (result ≡ said) × (((j : ℕ) → get_or work.old j 0 ≡ 0) → (j : ℕ) → get_or work.new j 0 ≡ 0) }
 {
-    if 0 < number(said) {
-        return said;
-    }
+    said?;
     let size = record_size(out);
-    let bytes = &out[0..size];
+    let bytes = &out[..size];
     check(net, held, work, bytes)
 }
 

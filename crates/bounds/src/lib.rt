@@ -3,43 +3,35 @@
 
 pub mod noting;
 
-ghost use Rattle.std.specs.Prelude.{◌*◌, ◌-◌, ◌≤◌, ◌<◌, length};
+ghost use Rattle.std.specs.Prelude.{◌≤◌, length};
 ghost use Rattle.costs.specs.Net.{entries};
-ghost use Rattle.passes.specs.Passing.{pass};
-ghost use Rattle.shifts.specs.Ties.Parts.{Laid};
-ghost use Rattle.recorder.specs.Ties.Noted.{note_size};
+ghost use Rattle.shifts.specs.Ties.Sites.{net_at};
 ghost use Rattle.bounds.specs.Ties.Noting.{notes_most, pass_at, TellsPass};
 
 use crate::noting::{Noted, pass_noting};
-use costs::limits::{FUNCTIONS, ROWS, VARS};
-use costs::networks::Outline;
 use passes::passing::pass_over;
+use shifts::moves::Move;
+use shifts::sites::Site;
 use tables::copy_in;
 
 // The constant after the pass at a node, from the held costs; where a record is asked for, its shifts are noted.
-pub fn bound_at<'a>(
+pub fn bound_at(
     work: &mut [u64],
-    notes: &mut [u64],
+    notes: &mut [Move],
     held: &[u64],
-    sizes: &'a [u8; VARS],
-    scopes: &'a [u8; ROWS],
-    starts: &'a [usize; FUNCTIONS],
-    firsts: &'a [usize; VARS],
-    node: &'a [u8; VARS],
-    o: Outline,
+    site: Site,
     asked: bool,
 ) -> Noted
-    requires laid { Laid o sizes.now scopes.now starts.now firsts.now node.now (length work.old) }
-    requires entries_in_bounds { (o.entries ≤ length held.now) × (notes_most * note_size ≤ length notes.old) }
-    ensures { TellsPass asked (pass_at o sizes.now scopes.now node.now held.now) notes.new result }
+    requires roomy { (entries (net_at site) ≤ length work.old) × (entries (net_at site) ≤ length held.now) }
+    requires notes_room { notes_most ≤ length notes.old }
+    ensures { TellsPass asked (pass_at site.entry held.now) notes.new result }
 {
-    copy_in(work, held, o.entries);
+    copy_in(work, held, site.judged.entries);
     if asked {
-        return pass_noting(work, notes, sizes, scopes, starts, firsts, node, o);
+        return pass_noting(work, notes, site);
     }
-    let reached = pass_over(work, sizes, scopes, starts, firsts, node, o);
     Noted {
-        constant: reached,
+        constant: pass_over(work, site),
         count: 0,
     }
 }

@@ -1,12 +1,8 @@
 -- A search with a budget refuses exactly where the search without one counts more nodes, and else is the same search. Assumes nothing.
-use Prim.Native.Nat.{ℕ, zero, suc, ◌≤◌, ◌<◌}
-use mathlib.Core.Path.{◌≡◌, refl, sym, ap, ◌∙◌}
-use mathlib.Core.Bool.{Bool, true, false, cond}
-use native.Mathlib.Omega.{arith}
-use native.Mathlib.Decide.{dec_le}
-use lib.Dec.{T, ltb, ltb→lt, lt→ltb}
-use Rattle.answers.specs.declared.Answer.TheVariants.{Done, OverBudget}
-use Rattle.answers.specs.Answers.{number_of}
+use Rattle.std.proofs.Common.{Err, ℕ, zero, suc, ◌≤◌, ◌<◌, ◌≡◌, refl, sym, ap, ◌∙◌, Bool, true, false, cond, arith, T, ltb, ltb→lt, lt→ltb}
+use Rattle.std.proofs.Math.Decide.{dec_le}
+use Rattle.answers.specs.Answers.{Done, number_of}
+use Rattle.answers.specs.declared.Refusal.TheVariants.{OverBudget}
 use Rattle.boxes.specs.Loops.{each_to}
 use Rattle.records.specs.Trees.{TreeNode, root, child}
 use Rattle.engines.specs.Engines.{Look, closes, finds, opens, State, Engine, Gate, never, closed_at, found_at, opened_at, ended_by, refuses, taken, each_live, visit, begin, searched, budget}
@@ -60,9 +56,9 @@ visit-never e (suc r) d s k = rw (visit_enters e never r d s k) (go (e.look d s.
 pub record Agree (m : ℕ) (t y : State) : Type 0 where
   pub goes : t.ended ≡ Done
   pub within : t.count ≤ m → y ≡ t
-  pub past : m < t.count → y.ended ≡ OverBudget
+  pub past : m < t.count → y.ended ≡ Err OverBudget
 
-over_refuses : (s : State) → s.ended ≡ OverBudget → refuses s.ended ≡ true
+over_refuses : (s : State) → s.ended ≡ Err OverBudget → refuses s.ended ≡ true
 over_refuses s e = rw e
 
 module _ (e : Engine) (m : ℕ) where
@@ -108,7 +104,7 @@ module _ (e : Engine) (m : ℕ) where
       go : (b : Bool) → (T b → s.count < m) → (s.count < m → T b) → (y : Look) → (taken y s (λ d' i. each_live e.net d' i (λ a. visit e never r (child d' i a)))).ended ≡ Done
           → ((d' : TreeNode) (i a : ℕ) (x : State) → x.ended ≡ Done → x.count ≤ m → Agree m (visit e never r (child d' i a) x) (visit e (budget m) r (child d' i a) x))
           → Agree m (taken y s (λ d' i. each_live e.net d' i (λ a. visit e never r (child d' i a))))
-          (cond (refuses (cond b Done OverBudget)) (ended_by (cond b Done OverBudget) s) (taken y s (λ d' i. each_live e.net d' i (λ a. visit e (budget m) r (child d' i a)))))
+          (cond (refuses (cond b Done (Err OverBudget))) (ended_by (cond b Done (Err OverBudget)) s) (taken y s (λ d' i. each_live e.net d' i (λ a. visit e (budget m) r (child d' i a)))))
       go true p q y h f = inside y (p tt) f
       go false p q y h f = record { goes = h; within = λ l. absurd (q (omega (arith, counts y))); past = λ l. refl }
 
@@ -118,7 +114,7 @@ module _ (e : Engine) (m : ℕ) where
   agrees = visit_agrees e m (suc e.net.vars) (root e.net) (begin e.net.top) refl (omega arith)
 
   -- it is refused exactly where more nodes are needed than the budget
-  pub refused_past : m < (searched e never).count → (searched e (budget m)).ended ≡ OverBudget
+  pub refused_past : m < (searched e never).count → (searched e (budget m)).ended ≡ Err OverBudget
   refused_past = agrees.past
 
   -- else it is the search without one
@@ -126,7 +122,7 @@ module _ (e : Engine) (m : ℕ) where
   same_within = agrees.within
 
   pub finished_within : (searched e (budget m)).ended ≡ Done → (searched e never).count ≤ m
-  finished_within k = elim (dec_le (searched e never).count m) [ yes q ↦ q | no q ↦ absurd (let e : number_of Done ≡ number_of OverBudget = ap number_of (sym k ∙ agrees.past (omega arith)) in omega (arith, e)) ]
+  finished_within k = elim (dec_le (searched e never).count m) [ yes q ↦ q | no q ↦ absurd (let e : number_of Done ≡ number_of (Err OverBudget) = ap number_of (sym k ∙ agrees.past (omega arith)) in omega (arith, e)) ]
 
 -- M-111: "a search that finishes with some budget gives the same plan, price, count and record with any larger budget"
 pub larger_same : (e : Engine) (m m' : ℕ) → m ≤ m' → (searched e (budget m)).ended ≡ Done → searched e (budget m') ≡ searched e (budget m)

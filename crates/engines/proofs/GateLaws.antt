@@ -1,10 +1,7 @@
 -- Gates behind one another, and what a search that comes to its end owes to its gate: nothing. Assumes nothing.
-use Prim.Native.Nat.{ℕ, zero, suc}
-use mathlib.Core.Path.{◌≡◌, refl, sym, fun_ext}
-use mathlib.Core.Bool.{Bool, true, false, cond}
-use native.Mathlib.Omega.{arith}
-use Rattle.answers.specs.declared.Answer.{Answer}
-use Rattle.answers.specs.declared.Answer.TheVariants.{Done}
+use Rattle.std.proofs.Common.{ℕ, zero, suc, ◌≡◌, refl, sym, Bool, true, false, cond, arith}
+use Rattle.std.proofs.Math.Path.{fun_ext}
+use Rattle.answers.specs.Answers.{Answer, Done}
 use Rattle.boxes.specs.Loops.{each_to}
 use Rattle.records.specs.Trees.{TreeNode, root, child}
 use Rattle.engines.specs.Engines.{Look, closes, finds, opens, State, Engine, Gate, refuses, never, both, opened_at, ended_by, taken, each_live, visit, begin, searched}

@@ -1,9 +1,6 @@
 -- Legal shifts and a close spell a node. Assumes nothing.
-use Prim.Native.Nat.{ℕ, ◌≤◌}
-use mathlib.Core.Path.{◌≡◌, refl, ◌∙◌}
-use mathlib.Core.List.{List, [], ◌∷◌, ◌++◌, map, append_assoc}
-use mathlib.Core.Option.{Option, none, some}
-use native.Mathlib.Omega.{arith}
+use Rattle.std.proofs.Common.{ℕ, ◌≤◌, ◌≡◌, refl, ◌∙◌, List, [], ◌∷◌, ◌++◌, map, append_assoc, arith}
+use Rattle.std.proofs.Math.Option.{Option, none, some}
 use Rattle.costs.specs.Net.{Net, Costs, Sound}
 use Rattle.shifts.specs.declared.moves.Move.{Move}
 use Rattle.shifts.specs.Moves.{shifted, ran, LegalAll}

@@ -1,47 +1,33 @@
 -- A plan handed back, and the answer of a search that came to its end. Assumes nothing.
-use Prim.Native.Nat.{ℕ, suc, ◌+◌, ◌-◌, ◌≤◌, ◌<◌}
-use mathlib.Core.Path.{◌≡◌, refl, sym, ap, ◌∙◌}
-use mathlib.Core.Bool.{Bool, true, false, cond}
-use mathlib.Core.Logic.{◌⊎◌, inl, inr}
-use mathlib.Core.List.{List, [], ◌∷◌, ◌++◌, append_assoc}
-use native.Mathlib.Omega.{arith}
-use native.Mathlib.Decide.{dec_le}
-use lib.ListN.{length, set, replicate}
-use borrow.Author.Tests.{le-leb, lt-leb}
-use Rattle.answers.specs.declared.Answer.{Answer}
-use Rattle.answers.specs.declared.Answer.TheVariants.{Done, LongRecord}
+use Rattle.std.proofs.Common.{Err, ℕ, ◌-◌, ◌≤◌, ◌<◌, ◌≡◌, refl, sym, ap, ◌∙◌, Bool, true, false, cond, ◌⊎◌, inl, inr, List, ◌++◌, arith, length, take, drop, replicate, get_or, le-leb, ext_get_or, length-take-le, get_or-take}
+use Rattle.std.proofs.Math.Decide.{dec_le}
+use Rattle.std.proofs.lemmas.Bool.{lt-leb}
+use Rattle.answers.specs.Answers.{Answer, Done}
+use Rattle.answers.specs.declared.Refusal.TheVariants.{LongRecord}
 use Rattle.costs.specs.Limits.{vars_most}
 use Rattle.costs.specs.declared.plans.Plan.{Plan}
 use Rattle.costs.specs.Range.{list_to}
 use Rattle.engines.specs.Results.{planned, finished_search, record_bytes, refused_left, finished_left, ended_left}
 use Rattle.engines.specs.Engines.{State, refuses}
 use Rattle.costs.specs.Net.{Net}
-use Rattle.costs.proofs.ListLaws.{list_length}
-use lib.Seq.{set_at}
+use Rattle.costs.proofs.ListLaws.{list_length, list_at}
+use Rattle.std.proofs.lemmas.List.{drop-replicate}
 
-pub plan_turn : (f : ℕ → ℕ) (v : ℕ) (choice : List ℕ) → v < vars_most → choice ≡ list_to v f ++ replicate (vars_most - v) 0
-    → set choice v (f v) ≡ list_to (v + 1) f ++ replicate (vars_most - (v + 1)) 0
-plan_turn f v choice l e =
-    let front = list_to v f in
-    let more : vars_most - v ≡ suc (vars_most - (v + 1)) = omega (arith, l) in
-    let next : suc v ≡ v + 1 = omega arith in
-    let rest : List ℕ = replicate (vars_most - (v + 1)) 0 in
-    let split : choice ≡ front ++ (0 ∷ rest) = e ∙ ap (λ (m : ℕ). front ++ replicate m 0) more in
-    ap (λ (c : List ℕ). set c v (f v)) split ∙ set_at front 0 rest (f v) v (list_length v f) ∙ sym (append_assoc front (f v ∷ []) rest)
-    ∙ ap (λ (m : ℕ). list_to m f ++ rest) next
-
-pub plan_done : (f : ℕ → ℕ) (v count : ℕ) (choice : List ℕ) → v ≤ count → count ≤ v → choice ≡ list_to v f ++ replicate (vars_most - v) 0
-    → ◌≡◌ {A = Plan} (record { choice = choice; len = count }) (planned (list_to count f))
-plan_done f v count choice l m e =
-    let same : v ≡ count = omega arith in
-    rw (e, same, list_length count f)
+-- the first values of a plan, zeros behind them
+pub plan_kept : (plan : List ℕ) (count : ℕ) (front : List ℕ) → length plan ≡ vars_most → count ≤ vars_most → front ≡ take count plan
+    → ◌≡◌ {A = Plan} (record { choice = front ++ drop count (replicate vars_most 0); len = count }) (planned (list_to count (λ v. get_or plan v 0)))
+plan_kept plan count front l m e =
+    let f : ℕ → ℕ = λ v. get_or plan v 0 in
+    let long : length (take count plan) ≡ count = length-take-le count plan (omega arith) in
+    let same : take count plan ≡ list_to count f = ext_get_or 0 (take count plan) (list_to count f) (long ∙ sym (list_length count f)) (λ v k. get_or-take count plan v 0 (omega (arith, long)) ∙ sym (list_at count f v (omega (arith, long)))) in
+    rw (e, same, drop-replicate, list_length count f)
 
 pub ended_finished : (n : Net) (asked : Bool) (room : ℕ) (s : State) → s.ended ≡ Done → ended_left n asked room s ≡ finished_left n asked room s
 ended_finished n asked room s e = ap (λ (a : Answer). cond (refuses a) (refused_left room a) (finished_left n asked room s)) e
 
 -- how it ends: a record that is asked for is longer than the buffer, or nothing is amiss and the result is the search's
 pub finished_ways : (n : Net) (asked : Bool) (room : ℕ) (s : State)
-    → ((asked ≡ true) × (room < length (record_bytes n s)) × ((finished_left n asked room s).result.answer ≡ LongRecord))
+    → ((asked ≡ true) × (room < length (record_bytes n s)) × ((finished_left n asked room s).result.answer ≡ Err LongRecord))
     ⊎ ((asked ≡ true → length (record_bytes n s) ≤ room) × ((finished_left n asked room s).result ≡ finished_search s.plan s.best s.count))
 finished_ways n false room s = inr ((λ e. absurd (let z : ◌≡◌ {A = ℕ} 0 1 = cc in omega arith)), refl)
 finished_ways n true room s = elim (dec_le (length (record_bytes n s)) room) [

@@ -1,18 +1,10 @@
 -- An engine that is right at each node searches right: its answer is the first cheapest plan, whatever the gate, where the search comes to its end.
 -- Assumes nothing.
-use Prim.Native.Nat.{ℕ, zero, suc, ◌≤◌, ◌<◌}
-use mathlib.Core.Path.{◌≡◌, refl, ap}
-use mathlib.Core.Bool.{Bool, true, false, cond, not}
-use mathlib.Core.Logic.{◌⊎◌, inl, inr, ⊎_elim}
-use mathlib.Core.List.{List}
-use native.Mathlib.Omega.{arith}
-use native.Mathlib.Decide.{ℕ_discrete, dec_lt}
-use lib.Dec.{T, eqb, eqb→eq, eqb_refl}
-use lib.ListN.{length, get_or-eq_default}
-use borrow.Author.Tests.{ltb-false}
-use Rattle.answers.specs.declared.Answer.{Answer}
-use Rattle.answers.specs.declared.Answer.TheVariants.{Done}
-use Rattle.answers.specs.Answers.{number_of}
+use Rattle.std.proofs.Common.{ℕ, zero, suc, ◌≤◌, ◌<◌, ◌≡◌, refl, ap, Bool, true, false, cond, not, ◌⊎◌, inl, inr, ⊎_elim, List, arith, T, eqb, eqb→eq, length, ltb-false}
+use Rattle.std.proofs.Math.Decide.{ℕ_discrete, dec_lt}
+use Rattle.std.proofs.Math.Dec.{eqb_refl}
+use Rattle.std.proofs.Math.ListN.{get_or-eq_default}
+use Rattle.answers.specs.Answers.{Answer, Done, number_of}
 use Rattle.answers.proofs.AnswerLaws.{number_done}
 use Rattle.costs.specs.Range.{sum_to}
 use Rattle.costs.proofs.RangeLaws.{sum_to_point}

@@ -1,13 +1,6 @@
 -- How many nodes a search enters, and how many steps it writes, at most. Assumes nothing.
-use Prim.Native.Nat.{ℕ, zero, suc, ◌+◌, ◌*◌, ◌≤◌, ◌<◌}
-use mathlib.Core.Path.{◌≡◌, sym, ap, ◌∙◌}
-use mathlib.Core.Bool.{Bool, true, false, cond}
-use mathlib.Core.List.{[], ◌∷◌, ◌++◌}
-use native.Mathlib.Omega.{arith}
-use native.Mathlib.Nat.{mul-one, mul_comm, mul_left_comm, mul-suc, suc-mul}
-use native.Mathlib.Numerals.{add-one}
-use lib.Dec.{T, eqb, eqb→eq, eqb_refl}
-use lib.ListN.{length, length-append}
+use Rattle.std.proofs.Common.{ℕ, zero, suc, ◌+◌, ◌*◌, ◌≤◌, ◌<◌, ◌≡◌, sym, ap, ◌∙◌, Bool, true, false, cond, [], ◌∷◌, ◌++◌, arith, mul-one, mul_comm, mul_left_comm, mul-suc, suc-mul, add-one, T, eqb, eqb→eq, length, length-append}
+use Rattle.std.proofs.Math.Dec.{eqb_refl}
 use Rattle.costs.proofs.TestLaws.{is_true, is_false}
 use Rattle.boxes.proofs.LoopLaws.{each_keeps, each_adds}
 use Rattle.costs.specs.Range.{product_to}

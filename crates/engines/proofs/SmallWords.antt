@@ -1,12 +1,6 @@
 -- The words of a record that keeps the rules fit, where the limits of its network do. Assumes nothing.
-use Prim.Native.Nat.{ℕ, ◌+◌, ◌*◌, ◌≤◌, ◌<◌}
-use mathlib.Core.Bool.{Bool, true, false, cond}
-use mathlib.Core.Logic.{⊎_elim}
-use mathlib.Core.List.{List, [], ◌∷◌}
-use mathlib.Core.Option.{Option, none}
-use native.Mathlib.Omega.{arith}
-use lib.Dec.{ltb}
-use lib.ListN.{length, length-append}
+use Rattle.std.proofs.Common.{ℕ, ◌+◌, ◌*◌, ◌≤◌, ◌<◌, Bool, true, false, cond, ⊎_elim, List, [], ◌∷◌, arith, ltb, length, length-append}
+use Rattle.std.proofs.Math.Option.{Option, none}
 use Rattle.costs.specs.Net.{Net, Costs, All}
 use Rattle.costs.specs.Cheapest.{RightAnswer, Cheapest, NoneBelow}
 use Rattle.costs.proofs.NetLaws.{All-append, All-by}

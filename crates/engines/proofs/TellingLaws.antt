@@ -1,18 +1,8 @@
 -- What is told at the end of a search. Assumes nothing.
-use Prim.Native.Nat.{ℕ, ◌-◌, ◌<◌, min}
-use mathlib.Core.Path.{◌≡◌, sym, ap, ◌∙◌, subst}
-use mathlib.Core.Bool.{Bool, true, false, cond}
-use mathlib.Core.List.{List, ◌++◌}
-use mathlib.Core.Logic.{inl, inr}
-use native.Mathlib.Omega.{arith}
-use borrow.Author.Tests.{le-ltb, lt-ltb}
-use lib.Dec.{ltb}
-use lib.ListN.{length, take, replicate}
+use Rattle.std.proofs.Common.{Err, Ok, ℕ, ◌-◌, ◌<◌, min, ◌≡◌, sym, ap, ◌∙◌, subst, Bool, true, false, cond, List, ◌++◌, inl, inr, arith, le-ltb, lt-ltb, ltb, length, take, replicate}
 use Rattle.costs.specs.declared.networks.Network.{Network}
-use Rattle.costs.specs.declared.networks.Outline.{Outline}
 use Rattle.costs.specs.Net.{Net, Costs, Sound, IsPlan}
-use Rattle.costs.specs.Networks.{stands}
-use Rattle.judging.specs.declared.Judged.TheVariants.{Fit, Refused}
+use Rattle.costs.specs.Networks.{Outline, stands}
 use Rattle.judging.specs.declared.Unfit.{Unfit}
 use Rattle.judging.specs.Judging.{judged, refusal_of}
 use Rattle.engines.specs.Engines.{State}
@@ -21,7 +11,8 @@ use Rattle.costs.specs.Range.{list_to}
 use Rattle.recorder.specs.Ties.Splicing.{verdict_bit, values_of, Finished}
 use Rattle.records.specs.Records.{record_of}
 use Rattle.engines.specs.Ties.Progressing.{Meets, cost_told}
-use Rattle.answers.specs.declared.Answer.TheVariants.{Done, OverBudget, LongRecord}
+use Rattle.answers.specs.Answers.{Done}
+use Rattle.answers.specs.declared.Refusal.TheVariants.{LongRecord}
 use Rattle.records.specs.Words.{bytes_of}
 use Rattle.engines.specs.declared.results.Searched.{Searched}
 use Rattle.costs.specs.Cheapest.{value_in, Cheapest, RightAnswer}
@@ -64,7 +55,7 @@ module _ (n : Net) (room : ℕ) (s : State) (fits : Bool) (u : List ℕ) (h : Fi
   whole = record { result = finished_search s.plan s.best s.count; out = record_bytes n s ++ replicate (room - length (record_bytes n s)) 0 }
 
   abbrev cut : SearchLeft
-  cut = refused_left room LongRecord
+  cut = refused_left room (Err LongRecord)
 
   chosen : cond fits whole cut ≡ finished_left n true room s
   chosen = ap (λ (b : Bool). cond b whole cut) h.fits_is
@@ -72,14 +63,8 @@ module _ (n : Net) (room : ℕ) (s : State) (fits : Bool) (u : List ℕ) (h : Fi
   finished_fits : fits ≡ true → ◌≡◌ {A = SearchLeft} (record { result = finished_search s.plan s.best s.count; out = u }) (finished_left n true room s)
   finished_fits f = ap (λ (o : List ℕ). record { result = finished_search s.plan s.best s.count; out = o }) (rw f at h.holds) ∙ (rw f at chosen)
 
-  finished_long : fits ≡ false → ◌≡◌ {A = SearchLeft} (record { result = refused_search LongRecord; out = u }) (finished_left n true room s)
-  finished_long f = ap (λ (o : List ℕ). record { result = refused_search LongRecord; out = o }) (rw f at h.holds) ∙ (rw f at chosen)
-
 -- what is told of a search that came so far
 module _ (n : Net) (asked : Bool) (s : State) (x : Progress) (plan o : List ℕ) (m : Meets asked n.vars x plan o s) where
-  pub tells_over : (r : Searched) (u : List ℕ) → r ≡ refused_search OverBudget → x.over ≡ true → u ≡ replicate (length o) 0 → ◌≡◌ {A = SearchLeft} (record { result = r; out = u }) (ended_left n asked (length o) s)
-  tells_over r u e over z = rw (m.ended, over, e, z)
-
   module _ (good : Sound n) (held : Costs) (right : s.ended ≡ Done → RightAnswer n held s.plan s.best) (goes : x.over ≡ false) (found : Bool) (is : found ≡ ltb x.best n.top) (cost : ℕ) (cost-is : cost ≡ cost_told n held found plan) where
     goes_on : s.ended ≡ Done
     goes_on = rw goes at m.ended
@@ -108,16 +93,13 @@ module _ (n : Net) (asked : Bool) (s : State) (x : Progress) (plan o : List ℕ)
       pub tells_recorded : (r : Searched) → r ≡ finished_search (values_of n.vars found plan) cost x.nodes → fits ≡ true → ◌≡◌ {A = SearchLeft} (record { result = r; out = u }) (ended_left n asked (length o) s)
       tells_recorded r e f = ap (λ (q : Searched). record { result = q; out = u }) (told_result r e) ∙ finished_fits n (length o) s fits u record_is f ∙ leaves_finished true wanted
 
-      pub tells_long : (r : Searched) → r ≡ refused_search LongRecord → fits ≡ false → ◌≡◌ {A = SearchLeft} (record { result = r; out = u }) (ended_left n asked (length o) s)
-      tells_long r e f = ap (λ (q : Searched). record { result = q; out = u }) e ∙ finished_long n (length o) s fits u record_is f ∙ leaves_finished true wanted
-
 -- what a call leaves that the judge refuses, and one that it lets search
 module _ (net : Network) (held : List ℕ) (work out : ℕ) (asked : Bool) (s : State) where
-  pub leaves_refused : (why : Unfit) (r : Searched) (u : List ℕ) → Refused why ≡ judged net held (min (length held) work) → r ≡ refused_search (refusal_of why) → u ≡ replicate out 0
+  pub leaves_refused : (why : Unfit) (r : Searched) (u : List ℕ) → Err why ≡ judged net held (min (length held) work) → r ≡ refused_search (refusal_of why) → u ≡ replicate out 0
       → ◌≡◌ {A = SearchLeft} (record { result = r; out = u }) (leaves_of net held work out asked s)
   unfolding leaves_of
   leaves_refused why r u e q z = rw (← e, q, z)
 
-  pub leaves-told : (o : Outline) (l : SearchLeft) (room : ℕ) → Fit o ≡ judged net held (min (length held) work) → room ≡ out → l ≡ ended_left (stands net) asked room s → l ≡ leaves_of net held work out asked s
+  pub leaves-told : (o : Outline) (l : SearchLeft) (room : ℕ) → Ok o ≡ judged net held (min (length held) work) → room ≡ out → l ≡ ended_left (stands net) asked room s → l ≡ leaves_of net held work out asked s
   unfolding leaves_of
   leaves-told o l room e same h = rw (← e) (h ∙ ap (λ (k : ℕ). ended_left (stands net) asked k s) same)

@@ -1,16 +1,12 @@
 -- The nodes that a search enters stay tidy; what the pass says there. Assumes nothing.
-use Prim.Native.Nat.{ℕ, ◌≤◌, ◌<◌}
-use mathlib.Core.Path.{◌≡◌, refl, sym, ◌∙◌}
-use mathlib.Core.Bool.{Bool, true, false, cond}
-use mathlib.Core.Logic.{inl}
+use Rattle.std.proofs.Common.{ℕ, ◌≤◌, ◌<◌, ◌≡◌, refl, sym, ◌∙◌, Bool, true, false, cond, inl, arith, T, eqb, eqb→eq, ltb→lt, lt→ltb}
 use Rattle.costs.proofs.RangeLaws.{first_to_some, first_to_at, first_to_below}
 use Rattle.costs.proofs.TestLaws.{not_so}
 use Rattle.passes.proofs.PassIsLegal.{pass_constant_below}
 use Rattle.engines.specs.Nodes.{plan_of, HasLive, Tidy, OneLive}
 use Rattle.engines.specs.Rightness.{Found, Cut}
 use Rattle.costs.proofs.ListLaws.{list_length, list_at}
-use native.Mathlib.Omega.{arith}
-use lib.Dec.{T, eqb, eqb→eq, eqb_refl, ltb→lt, lt→ltb}
+use Rattle.std.proofs.Math.Dec.{eqb_refl}
 use Rattle.costs.specs.Range.{first_to}
 use Rattle.costs.specs.Net.{Net, Costs, Sound}
 use Rattle.shifts.specs.Nodes.{Fits, fixing}

@@ -1,12 +1,7 @@
 -- An engine whose steps keep the rules at each node writes a record that keeps them, and the node count is the record's own. Assumes nothing.
-use Prim.Native.Nat.{ℕ, zero, suc, ◌+◌, ◌≤◌, ◌<◌}
-use mathlib.Core.Path.{◌≡◌, refl, sym, ap}
-use mathlib.Core.Bool.{Bool, true, false, cond}
-use mathlib.Core.List.{List, [], ◌∷◌, ◌++◌, append_assoc, append-nil}
-use mathlib.Core.Option.{none}
-use native.Mathlib.Omega.{arith}
-use lib.Dec.{T}
-use Rattle.answers.specs.declared.Answer.TheVariants.{Done}
+use Rattle.std.proofs.Common.{ℕ, zero, suc, ◌+◌, ◌≤◌, ◌<◌, ◌≡◌, refl, sym, ap, Bool, true, false, cond, List, [], ◌∷◌, ◌++◌, append_assoc, append-nil, arith, T}
+use Rattle.std.proofs.Math.Option.{none}
+use Rattle.answers.specs.Answers.{Done}
 use Rattle.costs.specs.Range.{sum_to}
 use Rattle.boxes.specs.Loops.{each_to}
 use Rattle.costs.specs.Net.{Costs}

@@ -1,10 +1,7 @@
 -- What a search does does not depend on what was written before: a call may be stated from an empty list of steps. "The node count is the same when no record is
 -- asked for". Assumes nothing.
-use Prim.Native.Nat.{ℕ, zero, suc}
-use mathlib.Core.Path.{◌≡◌, refl, ap, ◌∙◌}
-use mathlib.Core.Bool.{Bool, true, false, cond}
-use mathlib.Core.List.{List, [], ◌∷◌, ◌++◌, append_assoc}
-use Rattle.answers.specs.declared.Answer.{Answer}
+use Rattle.std.proofs.Common.{ℕ, zero, suc, ◌≡◌, refl, ap, ◌∙◌, Bool, true, false, cond, List, [], ◌∷◌, ◌++◌, append_assoc}
+use Rattle.answers.specs.Answers.{Answer}
 use Rattle.boxes.specs.Loops.{each_to}
 use Rattle.records.specs.Trees.{TreeNode, child}
 use Rattle.records.specs.declared.steps.Step.{Step}

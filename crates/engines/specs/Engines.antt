@@ -1,8 +1,7 @@
 -- A search over an engine, so that every search shares its laws: an engine says what happens at a node, a gate whether the search goes on.
-use Rattle.std.specs.Prelude.{ℕ, zero, suc, ◌+◌, Bool, cond, List, [], ◌∷◌, ◌++◌, ltb}
-use Rattle.answers.specs.declared.Answer.{Answer}
-use Rattle.answers.specs.declared.Answer.TheVariants.{Done, OverBudget}
-use Rattle.answers.specs.Answers.{number_of}
+use Rattle.std.specs.Prelude.{ℕ, zero, suc, ◌+◌, Bool, cond, List, [], ◌∷◌, ◌++◌, ltb, Err}
+use Rattle.answers.specs.Answers.{Answer, Done, number_of}
+use Rattle.answers.specs.declared.Refusal.TheVariants.{OverBudget}
 use Rattle.costs.specs.Net.{Net}
 use Rattle.boxes.specs.Loops.{each_to}
 use Rattle.records.specs.declared.steps.Step.{Step}
@@ -48,7 +47,7 @@ both g h s = cond (refuses (g s)) (g s) (h s)
 
 -- 11, "more nodes needed than the budget": asked of a node about to be entered
 unfoldable pub budget : ℕ → Gate
-budget m s = cond (ltb s.count m) Done OverBudget
+budget m s = cond (ltb s.count m) Done (Err OverBudget)
 
 -- "Each node entered is counted"
 abbrev pub closed_at : List Step → State → State

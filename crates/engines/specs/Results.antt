@@ -1,15 +1,13 @@
 -- What a search hands back, and what the record's buffer then holds.
-use Rattle.std.specs.Prelude.{ℕ, ◌-◌, min, Bool, true, false, cond, List, [], ◌++◌, leb, length, replicate}
-use Rattle.answers.specs.declared.Answer.{Answer}
-use Rattle.answers.specs.declared.Answer.TheVariants.{Done, LongRecord}
+use Rattle.std.specs.Prelude.{ℕ, ◌-◌, min, Bool, true, false, cond, List, [], ◌++◌, leb, length, replicate, Err, Ok}
+use Rattle.answers.specs.Answers.{Answer, Done}
+use Rattle.answers.specs.declared.Refusal.TheVariants.{LongRecord}
 use Rattle.costs.specs.declared.networks.Network.{Network}
 use Rattle.costs.specs.declared.plans.Plan.{Plan}
 use Rattle.costs.specs.Limits.{vars_most}
 use Rattle.costs.specs.Net.{Net}
 use Rattle.costs.specs.Networks.{stands}
-use Rattle.judging.specs.declared.Judged.{Judged}
-use Rattle.judging.specs.declared.Judged.TheVariants.{Fit, Refused}
-use Rattle.judging.specs.Judging.{judged, refusal_of}
+use Rattle.judging.specs.Judging.{judged, refusal_of, Judgement}
 use Rattle.records.specs.Words.{bytes_of}
 use Rattle.records.specs.Records.{record_words}
 use Rattle.engines.specs.declared.results.Searched.{Searched}
@@ -44,16 +42,16 @@ abbrev pub finished_left : Net → Bool → ℕ → State → SearchLeft
 finished_left n true room s =
     cond (leb (length (record_bytes n s)) room)
     (record { result = finished_search s.plan s.best s.count; out = record_bytes n s ++ replicate (room - length (record_bytes n s)) 0 })
-    (refused_left room LongRecord)
+    (refused_left room (Err LongRecord))
 finished_left n false room s = record { result = finished_search s.plan s.best s.count; out = replicate room 0 }
 
 -- a search that a gate has ended is refused: 11, "more nodes needed than the budget"
 abbrev pub ended_left : Net → Bool → ℕ → State → SearchLeft
 ended_left n asked room s = cond (refuses s.ended) (refused_left room s.ended) (finished_left n asked room s)
 
-abbrev pub judged_left : Judged → ℕ → SearchLeft → SearchLeft
-judged_left (Fit o) room l = l
-judged_left (Refused why) room l = refused_left room (refusal_of why)
+abbrev pub judged_left : Judgement → ℕ → SearchLeft → SearchLeft
+judged_left (Ok o) room l = l
+judged_left (Err why) room l = refused_left room (refusal_of why)
 
 -- what a call leaves that judges the network and then searches it, from the state that its search ends in: `work` and `out` are the lengths of the working
 -- table and of the record's buffer

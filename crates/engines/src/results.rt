@@ -2,7 +2,9 @@
 use answers::Answer;
 use costs::plans::Plan;
 
-#[derive(Drop)]
+// "Beside a refusal and its place, everything returned is zero": so what was found stands beside the answer and not inside it, as `refused_search` and the laws
+// of the call say.
+#[derive(Clone, Copy, Debug, PartialEq, Eq)]
 pub struct Searched {
     pub answer: Answer,
     // the cheapest price, or k for "none"

@@ -1,11 +1,7 @@
 -- The record that a successful call leaves in the buffer, and that the call's count is the record's own. Assumes nothing.
-use Prim.Native.Nat.{ℕ, ◌+◌, ◌-◌, ◌*◌, ◌^◌, ◌≤◌, ◌<◌}
-use mathlib.Core.Path.{◌≡◌, refl, sym, ap, ◌∙◌, subst, fun_ext}
-use mathlib.Core.Bool.{true}
-use mathlib.Core.List.{List, ◌++◌}
-use native.Mathlib.Omega.{arith}
-use lib.ListN.{length, replicate, length-append}
-use Rattle.answers.specs.declared.Answer.TheVariants.{Done}
+use Rattle.std.proofs.Common.{ℕ, ◌+◌, ◌-◌, ◌*◌, ◌^◌, ◌≤◌, ◌<◌, ◌≡◌, refl, sym, ap, ◌∙◌, subst, true, List, ◌++◌, arith, length, replicate, length-append}
+use Rattle.std.proofs.Math.Path.{fun_ext}
+use Rattle.answers.specs.Answers.{Done}
 use Rattle.costs.specs.declared.networks.Network.{Network}
 use Rattle.costs.specs.Limits.{vars_most, size_most, functions_most, arity_most}
 use Rattle.costs.specs.Net.{All, costs_of}

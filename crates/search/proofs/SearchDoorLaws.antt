@@ -1,29 +1,18 @@
 -- The public call, as its code goes. Assumes nothing.
-use Prim.Native.Nat.{ℕ, ◌-◌, ◌*◌, ◌≤◌, ◌<◌, min}
-use mathlib.Core.Path.{◌≡◌, refl, sym, ap, ◌∙◌, subst}
-use mathlib.Core.Bool.{Bool, true, false}
-use mathlib.Core.List.{List}
-use native.Mathlib.Omega.{arith}
-use lib.ListN.{length, get_or, replicate}
-use Rattle.answers.specs.declared.Answer.TheVariants.{Done}
+use Rattle.std.proofs.Common.{Ok, Err, ℕ, ◌-◌, ◌≤◌, ◌<◌, min, ◌≡◌, refl, sym, ap, ◌∙◌, subst, Bool, false, List, arith, length, replicate}
+use Rattle.answers.specs.Answers.{Done}
 use Rattle.costs.specs.declared.networks.Network.{Network}
-use Rattle.costs.specs.declared.networks.Outline.{Outline}
+use Rattle.judging.specs.declared.judged.Judged.{Judged}
+use Rattle.judging.specs.Ties.Outlined.{outline_in}
 use Rattle.costs.specs.Limits.{vars_most}
-use Rattle.costs.specs.Range.{sum_to}
 use Rattle.costs.specs.Net.{IsPlan, costs_of}
-use Rattle.costs.specs.Networks.{net_of, Ready}
+use Rattle.costs.specs.Networks.{outline_of, stands}
 use Rattle.costs.specs.Cheapest.{value_in, RightAnswer}
-use Rattle.costs.proofs.TestLaws.{is_true}
 use Rattle.costs.proofs.RowLaws.{scoped_sound}
-use Rattle.judging.specs.declared.Judged.TheVariants.{Fit, Refused}
 use Rattle.judging.specs.declared.Unfit.{Unfit}
 use Rattle.judging.specs.Judging.{judged, refusal_of}
-use Rattle.judging.proofs.JudgeLaws.{judged-passed}
+use Rattle.judging.proofs.JudgeLaws.{judged-passed, judged_room}
 use Rattle.tables.proofs.TableLaws.{zero_at}
-use Rattle.shifts.specs.Nodes.{node_good}
-use Rattle.shifts.proofs.NodeLaws.{by_bytes}
-use Rattle.shifts.proofs.DoorLaws.{laid_by}
-use Rattle.recorder.specs.Ties.Noted.{note_size}
 use Rattle.bounds.specs.Ties.Noting.{notes_most}
 use Rattle.engines.specs.declared.results.Searched.{Searched}
 use Rattle.engines.specs.declared.progress.Progress.{Progress}
@@ -43,63 +32,64 @@ root_bytes = replicate vars_most 0
 fixes_none : (sizes : List ℕ) → Fixes root_bytes sizes 0
 fixes_none sizes = record { some = λ v l. absurd (omega arith); sized = λ v l. absurd (omega arith); free = λ v l. zero_at vars_most v }
 
-root_good : (vars : ℕ) (sizes : List ℕ) → node_good vars sizes root_bytes ≡ true
-root_good vars sizes = is_true _ ((by_bytes vars sizes root_bytes).finds (λ v m. let z = zero_at vars_most v in omega (arith, z)))
-
 -- a judged network's parts, and its search
-module _ (o : Outline) (sizes rows starts held : List ℕ) (ready : Ready o sizes rows starts) where
-  pub enters_root : (firsts : List ℕ) (room notes : ℕ) → o.entries ≤ length held → o.entries ≤ room → notes_most * note_size ≤ notes → ((v : ℕ) → v < o.vars → get_or firsts v 0 ≡ sum_to v (λ w. get_or sizes w 0))
-      → Enters o sizes rows starts firsts held root_bytes 0 room notes vars_most
-  enters_root firsts room notes whole roomy noted first = record {
-    laid = laid_by o sizes rows starts root_bytes firsts room ready (omega (arith, ready.entries_is)) (root_good o.vars sizes) first;
-    held_whole = whole;
+module _ (judged : Judged) (held : List ℕ) where
+  abbrev net : Network
+  net = judged.network
+
+  pub enters_root : (room notes : ℕ) → judged.entries ≤ room → notes_most ≤ notes → Enters judged root_bytes 0 room notes vars_most
+  enters_root room notes roomy noted = record {
+    roomy = roomy;
     noted = noted;
     plan_long = refl;
     node_long = refl;
     within = omega arith;
-    fixes = fixes_none sizes;
+    fixes = fixes_none net.sizes;
   }
 
-  searched-answers : 1 ≤ o.top → (limit : ℕ) → (searched_in o sizes rows held limit).ended ≡ Done
-      → RightAnswer (net_of o sizes rows) (costs_of o.constant held) (searched_in o sizes rows held limit).plan (searched_in o sizes rows held limit).best
+  searched-answers : 1 ≤ net.top → (limit : ℕ) → (searched_in net held limit).ended ≡ Done
+      → RightAnswer (stands net) (costs_of net.constant held) (searched_in net held limit).plan (searched_in net held limit).best
   unfolding searched_in
-  searched-answers some limit ended = first_answer (net_of o sizes rows) (scoped_sound o sizes rows ready.scoped) (costs_of o.constant held) ready.constant_most some (budget limit) ended
+  searched-answers some limit ended = first_answer (stands net) (scoped_sound (outline_of net) net.sizes net.scopes judged.ready.scoped) (costs_of net.constant held) judged.ready.constant_most some (budget limit) ended
 
-  module _ (asked : Bool) (limit : ℕ) (out : List ℕ) (b x : Progress) (plan out' : List ℕ) (begins : b ≡ beginning o.top (length out))
-      (visits : Visits o sizes rows held asked limit root_bytes 0 b root_bytes out x plan out') where
-    visited-whole : visited (net_of o sizes rows) (costs_of o.constant held) limit root_bytes 0 (begin o.top) ≡ searched_in o sizes rows held limit
+  module _ (asked : Bool) (limit : ℕ) (out : List ℕ) (b x : Progress) (plan out' : List ℕ) (begins : b ≡ beginning net.top (length out))
+      (visits : Visits net held asked limit root_bytes 0 b root_bytes out x plan out') where
+    visited-whole : visited (stands net) (costs_of net.constant held) limit root_bytes 0 (begin net.top) ≡ searched_in net held limit
     unfolding searched_in
-    visited-whole = let e : o.vars - 0 ≡ o.vars = omega arith in rw e
+    visited-whole = let e : net.vars - 0 ≡ net.vars = omega arith in rw e
 
-    pub done_meets : Meets asked o.vars x plan out' (searched_in o sizes rows held limit)
+    pub done_meets : Meets asked net.vars x plan out' (searched_in net held limit)
     done_meets =
-        subst (λ (s : State). Meets asked o.vars x plan out' s) visited-whole
-        (visits (begin o.top) (subst (λ (y : Progress). Meets asked o.vars y root_bytes out (begin o.top)) (sym begins) (begin_meets asked o.top o.vars out)))
+        subst (λ (s : State). Meets asked net.vars x plan out' s) visited-whole
+        (visits (begin net.top) (subst (λ (y : Progress). Meets asked net.vars y root_bytes out (begin net.top)) (sym begins) (begin_meets asked net.top net.vars out)))
 
     -- what a search that has not been ended tells its cost from is a plan
-    pub search_plan : 1 ≤ o.top → x.over ≡ false → x.best < o.top → IsPlan (net_of o sizes rows) (value_in plan)
+    pub search_plan : 1 ≤ net.top → x.over ≡ false → x.best < net.top → IsPlan (stands net) (value_in plan)
     search_plan some goes below =
-        answer_plan (net_of o sizes rows) (scoped_sound o sizes rows ready.scoped) (costs_of o.constant held) asked x plan out' (searched_in o sizes rows held limit) done_meets
+        answer_plan (stands net) (scoped_sound (outline_of net) net.sizes net.scopes judged.ready.scoped) (costs_of net.constant held) asked x plan out' (searched_in net held limit) done_meets
         (searched-answers some limit (rw goes at done_meets.ended)) below
 
-    pub search_told : 1 ≤ o.top → (r : Searched) (u : List ℕ) → length out' ≡ length out → Told o sizes rows held asked x plan out' r u
-        → ◌≡◌ {A = SearchLeft} (record { result = r; out = u }) (ended_left (net_of o sizes rows) asked (length out) (searched_in o sizes rows held limit))
+    pub search_told : 1 ≤ net.top → (r : Searched) (u : List ℕ) → length out' ≡ length out → Told net held asked x plan out' r u
+        → ◌≡◌ {A = SearchLeft} (record { result = r; out = u }) (ended_left (stands net) asked (length out) (searched_in net held limit))
     search_told some r u same told =
-        told (searched_in o sizes rows held limit) done_meets (searched-answers some limit) ∙ ap (λ (m : ℕ). ended_left (net_of o sizes rows) asked m (searched_in o sizes rows held limit)) same
+        told (searched_in net held limit) done_meets (searched-answers some limit) ∙ ap (λ (m : ℕ). ended_left (stands net) asked m (searched_in net held limit)) same
 
 -- what the judge has told, where `room` is the shorter of the two tables
 module _ (net : Network) (held : List ℕ) (work out : ℕ) (asked : Bool) (limit room : ℕ) (shorter : room ≡ min (length held) work) where
-  pub search_refused : (why : Unfit) → judged net held room ≡ Refused why → (r : Searched) (u : List ℕ) → r ≡ refused_search (refusal_of why) → u ≡ replicate out 0
+  pub search_refused : (why : Unfit) → Err why ≡ judged net held room → (r : Searched) (u : List ℕ) → r ≡ refused_search (refusal_of why) → u ≡ replicate out 0
       → ◌≡◌ {A = SearchLeft} (record { result = r; out = u }) (search_leaves net held work out asked limit)
-  search_refused why e r u is zeros = leaves_refused net held work out asked (search_of net held limit) why r u (rw (← shorter) (sym e)) is zeros
+  search_refused why e r u is zeros = leaves_refused net held work out asked (search_of net held limit) why r u (rw (← shorter) e) is zeros
 
-  module _ (o : Outline) (e : judged net held room ≡ Fit o) where
-    fits : Fit o ≡ judged net held (min (length held) work)
-    fits = rw (← shorter) (sym e)
+  module _ (passed : Judged) (same : passed.network ≡ net) (e : Ok (outline_in passed) ≡ judged net held room) where
+    fits : Ok (outline_in passed) ≡ judged net held (min (length held) work)
+    fits = rw (← shorter) e
 
-    pub fit_ready : Ready o net.sizes net.scopes net.starts × (1 ≤ o.top) × (o.entries ≤ length held) × (o.entries ≤ work)
-    fit_ready = let p = judged-passed net held (min (length held) work) o fits in rw p.outline (p.network.ready, p.network.top_some, omega (arith, p.roomy), omega (arith, p.roomy))
+    pub passed_roomy : (1 ≤ passed.network.top) × (passed.entries ≤ work)
+    passed_roomy = let roomy = judged_room net held room passed e in (rw same (judged-passed net held room (outline_in passed) e).network.top_some, omega (arith, roomy, shorter))
 
-    pub search_leaves_lem : (l : SearchLeft) → l ≡ ended_left (net_of o net.sizes net.scopes) asked out (searched_in o net.sizes net.scopes held limit) → l ≡ search_leaves net held work out asked limit
+    pub held_whole : passed.entries ≤ length held
+    held_whole = let roomy = judged_room net held room passed e in omega (arith, roomy, shorter)
+
+    pub passed_leaves : (l : SearchLeft) → l ≡ ended_left (stands passed.network) asked out (searched_in passed.network held limit) → l ≡ search_leaves net held work out asked limit
     unfolding search_of searched_in
-    search_leaves_lem l h = let p = judged-passed net held (min (length held) work) o fits in leaves-told net held work out asked (search_of net held limit) o l out fits refl (rw p.outline at h)
+    passed_leaves l h = leaves-told net held work out asked (search_of net held limit) (outline_in passed) l out fits refl (rw same at h)

@@ -1,22 +1,13 @@
 -- Demand 2 for the public call: the right answer, and 11 and 12 exactly when document 01 says. Assumes nothing.
-use Prim.Native.Nat.{ℕ, ◌≤◌, ◌<◌, min}
-use mathlib.Core.Path.{◌≡◌, refl, sym, ap, ◌∙◌}
-use mathlib.Core.Bool.{Bool, true}
-use mathlib.Core.Logic.{◌⊎◌, inl, inr, ⊎_elim, ◌≢◌}
-use mathlib.Core.List.{List}
-use native.Mathlib.Omega.{arith}
-use native.Mathlib.Decide.{dec_le}
-use lib.ListN.{length}
-use Rattle.answers.specs.declared.Answer.{Answer}
-use Rattle.answers.specs.declared.Answer.TheVariants.{Done, OverBudget, LongRecord}
-use Rattle.answers.specs.Answers.{number_of}
+use Rattle.std.proofs.Common.{Err, Ok, ℕ, ◌≤◌, ◌<◌, min, ◌≡◌, refl, sym, ap, ◌∙◌, Bool, true, ◌⊎◌, inl, inr, ⊎_elim, ◌≢◌, List, arith, length}
+use Rattle.std.proofs.Math.Decide.{dec_le}
+use Rattle.answers.specs.Answers.{Answer, Done, number_of}
+use Rattle.answers.specs.declared.Refusal.TheVariants.{OverBudget, LongRecord}
 use Rattle.costs.specs.declared.networks.Network.{Network}
 use Rattle.costs.specs.Net.{costs_of}
 use Rattle.costs.specs.Networks.{stands}
-use Rattle.judging.specs.declared.Judged.{Judged}
-use Rattle.judging.specs.declared.Judged.TheVariants.{Fit, Refused}
 use Rattle.judging.specs.declared.Unfit.TheVariants.{NoNetwork, TooShort}
-use Rattle.judging.specs.Judging.{judged, Lent}
+use Rattle.judging.specs.Judging.{judged, Lent, Judgement}
 use Rattle.judging.proofs.JudgeLaws.{lent_fit, fit_lent}
 use Rattle.engines.specs.declared.results.Searched.{Searched}
 use Rattle.engines.specs.Engines.{State}
@@ -55,10 +46,10 @@ module _ (net : Network) (held : List ℕ) (work out : ℕ) (asked : Bool) (limi
   abbrev left : SearchLeft
   left = search_leaves net held work out asked limit
 
-  by_judge : (j : Judged) → judged net held (min (length held) work) ≡ j → (a : Answer) → (judged_left j out (ended_left (stands net) asked out (search_of net held limit))).result.answer ≡ a → number_of a ≢ 7 → number_of a ≢ 8 → Lent net held work
-  by_judge (Fit o) q a e not7 not8 = fit_lent net held work o (sym q)
-  by_judge (Refused NoNetwork) q a e not7 not8 = absurd (not8 (sym (ap number_of e)))
-  by_judge (Refused TooShort) q a e not7 not8 = absurd (not7 (sym (ap number_of e)))
+  by_judge : (j : Judgement) → judged net held (min (length held) work) ≡ j → (a : Answer) → (judged_left j out (ended_left (stands net) asked out (search_of net held limit))).result.answer ≡ a → number_of a ≢ 7 → number_of a ≢ 8 → Lent net held work
+  by_judge (Ok o) q a e not7 not8 = fit_lent net held work o (sym q)
+  by_judge (Err NoNetwork) q a e not7 not8 = absurd (not8 (sym (ap number_of e)))
+  by_judge (Err TooShort) q a e not7 not8 = absurd (not7 (sym (ap number_of e)))
 
   -- a call that the judge does not refuse was lent a network and working room
   passed : (a : Answer) → left.result.answer ≡ a → number_of a ≢ 7 → number_of a ≢ 8 → Lent net held work
@@ -71,7 +62,7 @@ module _ (net : Network) (held : List ℕ) (work out : ℕ) (asked : Bool) (limi
     leaves_ended = rw (← (lent_fit net held work lent))
 
     -- "11: more nodes needed than the budget"
-    pub over_refused : limit < needed net held → left.result.answer ≡ OverBudget
+    pub over_refused : limit < needed net held → left.result.answer ≡ Err OverBudget
     unfolding search_of
     over_refused more =
         ap (λ (l : SearchLeft). l.result.answer) leaves_ended ∙ rw (refused_past (first_engine (stands net) (costs_of net.constant held)) limit more)
@@ -85,8 +76,8 @@ module _ (net : Network) (held : List ℕ) (work out : ℕ) (asked : Bool) (limi
         ∙ ended_finished (stands net) asked out (whole net held) (whole_ends net held)
 
     -- the ways in which the call ends, each with what it takes
-    ways : ((limit < needed net held) × (left.result.answer ≡ OverBudget))
-        ⊎ (((needed net held ≤ limit) × (asked ≡ true) × (out < length (whole_record net held)) × (left.result.answer ≡ LongRecord))
+    ways : ((limit < needed net held) × (left.result.answer ≡ Err OverBudget))
+        ⊎ (((needed net held ≤ limit) × (asked ≡ true) × (out < length (whole_record net held)) × (left.result.answer ≡ Err LongRecord))
         ⊎ ((needed net held ≤ limit) × (asked ≡ true → length (whole_record net held) ≤ out) × (left.result ≡ whole_result net held)))
     ways = elim (dec_le (needed net held) limit) [
       | no more ↦ let m : limit < needed net held = omega (arith, more) in inl (m, over_refused m)
@@ -96,7 +87,7 @@ module _ (net : Network) (held : List ℕ) (work out : ℕ) (asked : Bool) (limi
     ]
 
     -- "12: whole record longer than the lent buffer, a record being asked for"
-    pub long_refused : needed net held ≤ limit → asked ≡ true → out < length (whole_record net held) → left.result.answer ≡ LongRecord
+    pub long_refused : needed net held ≤ limit → asked ≡ true → out < length (whole_record net held) → left.result.answer ≡ Err LongRecord
     long_refused enough wanted long = ⊎_elim (λ h. absurd (omega (arith, h.0))) (⊎_elim (λ h. h.3) (λ h. absurd (let l = h.1 wanted in omega (arith, l)))) ways
 
     -- "Given a sound network and enough budget, working room and record room"
@@ -105,7 +96,7 @@ module _ (net : Network) (held : List ℕ) (work out : ℕ) (asked : Bool) (limi
         ⊎_elim (λ h. absurd (omega (arith, h.0))) (⊎_elim (λ h. absurd (let l = roomy h.1 in omega (arith, l, h.2))) (λ h. whole_right net held work lent left.result h.2)) ways
 
     -- nothing else is answered
-    pub lent_answers : (left.result.answer ≡ Done) ⊎ ((left.result.answer ≡ OverBudget) ⊎ (left.result.answer ≡ LongRecord))
+    pub lent_answers : (left.result.answer ≡ Done) ⊎ ((left.result.answer ≡ Err OverBudget) ⊎ (left.result.answer ≡ Err LongRecord))
     lent_answers = ⊎_elim (λ h. inr (inl h.1)) (⊎_elim (λ h. inr (inr h.3)) (λ h. inl (ap (λ (r : Searched). r.answer) h.2))) ways
 
   -- the same from the answer alone
@@ -115,22 +106,22 @@ module _ (net : Network) (held : List ℕ) (work out : ℕ) (asked : Bool) (limi
   finished : left.result ≡ whole_result net held → left.result.answer ≡ Done
   finished e = ap (λ (r : Searched). r.answer) e
 
-  pub refused_over : left.result.answer ≡ OverBudget → Lent net held work × (limit < needed net held)
+  pub refused_over : left.result.answer ≡ Err OverBudget → Lent net held work × (limit < needed net held)
   refused_over e =
-      let lent = passed OverBudget e (λ z. omega (arith, z)) (λ z. omega (arith, z)) in
-      (lent, ⊎_elim (λ h. h.0) (⊎_elim (λ h. unlike OverBudget LongRecord e h.3 (λ z. omega (arith, z))) (λ h. unlike OverBudget Done e (finished h.2) (λ z. omega (arith, z)))) (ways lent))
+      let lent = passed (Err OverBudget) e (λ z. omega (arith, z)) (λ z. omega (arith, z)) in
+      (lent, ⊎_elim (λ h. h.0) (⊎_elim (λ h. unlike (Err OverBudget) (Err LongRecord) e h.3 (λ z. omega (arith, z))) (λ h. unlike (Err OverBudget) Done e (finished h.2) (λ z. omega (arith, z)))) (ways lent))
 
-  pub refused_long : left.result.answer ≡ LongRecord → Lent net held work × (needed net held ≤ limit) × (asked ≡ true) × (out < length (whole_record net held))
+  pub refused_long : left.result.answer ≡ Err LongRecord → Lent net held work × (needed net held ≤ limit) × (asked ≡ true) × (out < length (whole_record net held))
   refused_long e =
-      let lent = passed LongRecord e (λ z. omega (arith, z)) (λ z. omega (arith, z)) in
-      ⊎_elim (λ h. unlike LongRecord OverBudget e h.1 (λ z. omega (arith, z)))
-      (⊎_elim (λ h. (lent, h.0, h.1, h.2)) (λ h. unlike LongRecord Done e (finished h.2) (λ z. omega (arith, z)))) (ways lent)
+      let lent = passed (Err LongRecord) e (λ z. omega (arith, z)) (λ z. omega (arith, z)) in
+      ⊎_elim (λ h. unlike (Err LongRecord) (Err OverBudget) e h.1 (λ z. omega (arith, z)))
+      (⊎_elim (λ h. (lent, h.0, h.1, h.2)) (λ h. unlike (Err LongRecord) Done e (finished h.2) (λ z. omega (arith, z)))) (ways lent)
 
   done_whole : left.result.answer ≡ Done → Lent net held work × (needed net held ≤ limit) × (asked ≡ true → length (whole_record net held) ≤ out) × (left.result ≡ whole_result net held)
   done_whole e =
       let lent = passed Done e (λ z. omega (arith, z)) (λ z. omega (arith, z)) in
-      ⊎_elim (λ h. unlike Done OverBudget e h.1 (λ z. omega (arith, z)))
-      (⊎_elim (λ h. unlike Done LongRecord e h.3 (λ z. omega (arith, z))) (λ h. (lent, h.0, h.1, h.2))) (ways lent)
+      ⊎_elim (λ h. unlike Done (Err OverBudget) e h.1 (λ z. omega (arith, z)))
+      (⊎_elim (λ h. unlike Done (Err LongRecord) e h.3 (λ z. omega (arith, z))) (λ h. (lent, h.0, h.1, h.2))) (ways lent)
 
   -- what a caller has in hand after a success
   pub done_right : left.result.answer ≡ Done → Lent net held work × (needed net held ≤ limit) × (asked ≡ true → length (whole_record net held) ≤ out) × FoundRight net held left.result

@@ -1,8 +1,6 @@
 -- What the search without a budget comes to, in a network that calls are lent. Assumes nothing.
-use Prim.Native.Nat.{ℕ}
-use mathlib.Core.Path.{◌≡◌, refl}
-use mathlib.Core.List.{List}
-use Rattle.answers.specs.declared.Answer.TheVariants.{Done}
+use Rattle.std.proofs.Common.{ℕ, ◌≡◌, refl, List}
+use Rattle.answers.specs.Answers.{Done}
 use Rattle.costs.specs.declared.networks.Network.{Network}
 use Rattle.costs.specs.Net.{Sound, costs_of}
 use Rattle.costs.specs.Networks.{stands}

@@ -1,6 +1,6 @@
 -- What `search` hands back, and what the record's buffer then holds.
 use Rattle.std.specs.Prelude.{ℕ, ◌≡◌, Bool, List}
-use Rattle.answers.specs.declared.Answer.TheVariants.{Done}
+use Rattle.answers.specs.Answers.{Done}
 use Rattle.costs.specs.declared.networks.Network.{Network}
 use Rattle.costs.specs.Net.{costs_of}
 use Rattle.costs.specs.Networks.{stands}

@@ -1,10 +1,8 @@
 -- The search of document 01 is right, and writes a record that keeps the rules. Assumes nothing.
-use Prim.Native.Nat.{ℕ, ◌≤◌, ◌<◌}
-use mathlib.Core.Path.{◌≡◌, refl}
-use native.Mathlib.Omega.{arith}
-use lib.Dec.{leb, leb→le, nleb→lt, ltb, ltb→lt, nltb→le}
-use borrow.Author.Tests.{not-true, not-false}
-use Rattle.answers.specs.declared.Answer.TheVariants.{Done}
+use Rattle.std.proofs.Common.{ℕ, ◌≤◌, ◌<◌, ◌≡◌, refl, arith, leb, leb→le, ltb, ltb→lt, nltb→le}
+use Rattle.std.proofs.Math.Dec.{nleb→lt}
+use Rattle.std.proofs.lemmas.Bool.{not-true, not-false}
+use Rattle.answers.specs.Answers.{Done}
 use Rattle.costs.specs.Range.{first_to}
 use Rattle.costs.proofs.TestLaws.{is_true, is_false}
 use Rattle.costs.proofs.RangeLaws.{first_to_below}

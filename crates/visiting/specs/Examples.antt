@@ -1,6 +1,7 @@
 -- The searches of networks A, B and C of document 01, "Reckoned by hand", computed from the definitions.
-use Rattle.std.specs.Prelude.{ℕ, ◌≡◌, refl, List, [], ◌∷◌}
-use Rattle.answers.specs.declared.Answer.TheVariants.{Done, OverBudget}
+use Rattle.std.specs.Prelude.{ℕ, ◌≡◌, refl, List, [], ◌∷◌, Err}
+use Rattle.answers.specs.Answers.{Done}
+use Rattle.answers.specs.declared.Refusal.TheVariants.{OverBudget}
 use Rattle.costs.specs.declared.networks.Network.{Network}
 use Rattle.costs.specs.Cost.{minus}
 use Rattle.costs.specs.Net.{costs_of}
@@ -38,6 +39,6 @@ unfolding visit first_look pass shifted in_stretch minus fixing least
 records = refl
 
 -- of B "Budget 3 finishes, 2 gives 11"
-budgets : (search_on network_b table_b (budget 3)).ended ∷ (search_on network_b table_b (budget 2)).ended ∷ [] ≡ Done ∷ OverBudget ∷ []
+budgets : (search_on network_b table_b (budget 3)).ended ∷ (search_on network_b table_b (budget 2)).ended ∷ [] ≡ Done ∷ (Err OverBudget) ∷ []
 unfolding visit first_look pass shifted in_stretch minus fixing least budget
 budgets = refl

@@ -7,72 +7,47 @@ ghost use Rattle.engines.specs.Ties.Progressing.{nodes_most};
 ghost use Rattle.visiting.specs.Ties.Visiting.{Enters, Looks, Visits};
 
 use bounds::bound_at;
-use costs::limits::{FUNCTIONS, ROWS, VARS};
-use costs::networks::{Outline, byte_at};
+use costs::limits::VARS;
 use engines::progress::{Progress, closed, ended, found, opened};
+use engines::tasks::Task;
+use shifts::moves::Move;
+use shifts::sites::Site;
 
 // The node that fixes the first `depth` variables, and all below it.
-pub fn visit<'a>(
+pub fn visit(
     work: &mut [u64],
-    notes: &mut [u64],
+    notes: &mut [Move],
     out: &mut [u8],
     node: &mut [u8; VARS],
     plan: &mut [u8; VARS],
-    held: &[u64],
-    sizes: &'a [u8; VARS],
-    scopes: &'a [u8; ROWS],
-    starts: &'a [usize; FUNCTIONS],
-    firsts: &'a [usize; VARS],
-    o: Outline,
-    asked: bool,
-    limit: u64,
+    task: Task,
     depth: usize,
     from: Progress,
 ) -> Progress
-    requires { Enters o sizes.now scopes.now starts.now firsts.now held.now node.old depth (length work.old) (length notes.old) (length plan.old) }
-    ensures { (node.new ≡ node.old) × (length plan.new ≡ vars_most) × Visits o sizes.now scopes.now held.now asked limit node.old depth from plan.old out.old result plan.new out.new }
+    requires { Enters task.judged.now node.old depth (length work.old) (length notes.old) (length plan.old) }
+    ensures { (node.new ≡ node.old) × (length plan.new ≡ vars_most) × Visits task.entry.judged.now.network task.entry.held.now task.entry.asked task.entry.budget node.old depth from plan.old out.old result plan.new out.new }
 {
     if from.over {
         return from;
     }
-    if limit <= from.nodes {
+    if task.budget <= from.nodes {
         return ended(from);
     }
-    let seen = look(
-        work, notes, out, plan, held, sizes, scopes, starts, firsts, node, o, asked, depth, from,
-    );
+    let seen = look(work, notes, out, plan, task, node, depth, from);
     let mut next = seen.progress;
     if !seen.branched {
         return next;
     }
-    let size = byte_at(sizes, depth);
-    let mut a: usize = 0;
-    while a < size {
+    let size = task.judged.network.size(depth);
+    for a in 0..size {
         fix(node, depth, a);
-        next = visit(
-            work,
-            notes,
-            out,
-            node,
-            plan,
-            held,
-            sizes,
-            scopes,
-            starts,
-            firsts,
-            o,
-            asked,
-            limit,
-            depth + 1,
-            next,
-        );
-        a += 1;
+        next = visit(work, notes, out, node, plan, task, depth + 1, next);
     }
     release(node, depth);
     next
 }
 
-// How far a look at a node leads, and whether the node is branched.
+// How far a look at a node leads, and whether the node is branched: both stand in either case, so a `Result` would say no more.
 #[derive(Clone, Copy)]
 struct Seen {
     progress: Progress,
@@ -81,56 +56,49 @@ struct Seen {
 
 // "passed. If the constant is at least best, it closes. Else, if every variable is fixed, its plan and constant become the best, and it closes. Else the lowest
 // unfixed variable is branched"
-fn look<'a>(
+fn look(
     work: &mut [u64],
-    notes: &mut [u64],
+    notes: &mut [Move],
     out: &mut [u8],
     plan: &mut [u8; VARS],
-    held: &[u64],
-    sizes: &'a [u8; VARS],
-    scopes: &'a [u8; ROWS],
-    starts: &'a [usize; FUNCTIONS],
-    firsts: &'a [usize; VARS],
-    node: &'a [u8; VARS],
-    o: Outline,
-    asked: bool,
+    task: Task,
+    node: &[u8; VARS],
     depth: usize,
     from: Progress,
 ) -> Seen
-    requires enters { Enters o sizes.now scopes.now starts.now firsts.now held.now node.now depth (length work.old) (length notes.old) (length plan.old) }
+    requires enters { Enters task.judged.now node.now depth (length work.old) (length notes.old) (length plan.old) }
     requires nodes_lt_nodes_most { from.nodes < nodes_most }
-    ensures { (length plan.new ≡ vars_most) × Looks o sizes.now scopes.now held.now asked node.now depth from plan.old out.old result plan.new out.new }
+    ensures { (length plan.new ≡ vars_most) × Looks task.entry.judged.now.network task.entry.held.now task.entry.asked node.now depth from plan.old out.old result plan.new out.new }
 {
-    let bound = bound_at(
-        work, notes, held, sizes, scopes, starts, firsts, node, o, asked,
-    );
+    let site = Site {
+        judged: task.judged,
+        node,
+    };
+    let bound = bound_at(work, notes, task.held, site, task.asked);
     if from.best <= bound.constant {
-        let progress = closed(out, notes, from, bound.count, asked);
         return Seen {
-            progress: progress,
+            progress: closed(out, &notes[..bound.count], from, task.asked),
             branched: false,
         };
     }
-    if depth == o.vars {
+    if depth == task.judged.network.vars {
         let progress = found(
             plan,
             out,
-            notes,
+            &notes[..bound.count],
             node,
             from,
-            o.vars,
+            task.judged.network.vars,
             bound.constant,
-            bound.count,
-            asked,
+            task.asked,
         );
         return Seen {
-            progress: progress,
+            progress,
             branched: false,
         };
     }
-    let progress = opened(out, from, depth, asked);
     Seen {
-        progress: progress,
+        progress: opened(out, from, depth, task.asked),
         branched: true,
     }
 }
