@@ -1,10 +1,10 @@
 // Checks a record against a network, each in a file that an argument names, and prints `accepted` or the refusal.
 #![tactic(auto)]
 
-use answers::{Answer, number};
+use answers::Answer;
 use console::{argument_count, hand_over, read_in_argument, say};
 use costs::limits::ENTRIES;
-use lines::refusal;
+use lines::refusals::refusal;
 use reader::limits::TEXT;
 
 // One byte more than a text may have: a text that fills this is refused for its length.
@@ -37,24 +37,21 @@ fn read_and_check(rt: &HostRuntime, text: &mut [u8], record: &mut [u8]) {
     if record_came.failed.is_some() {
         return;
     }
-    let many = text_came.many;
-    let bytes = record_came.many;
-    if bytes == record.len() {
+    if record_came.many == record.len() {
         say(
             &rt.stderr(),
             b"a record of more than 4194304 bytes is not checked here\n",
         );
         return;
     }
-    check(rt, &text[..many], &record[..bytes]);
+    check(rt, &text[..text_came.many], &record[..record_came.many]);
 }
 
 fn check(rt: &HostRuntime, text: &[u8], record: &[u8]) {
     let mut held = [0u64; ENTRIES];
     let read = reader::reading::read(text, &mut held);
-    let unread = read.answer;
-    if number(unread) != 0 {
-        tell(rt, unread);
+    if read.answer.is_err() {
+        tell(rt, read.answer);
         return;
     }
     let net = read.network;
@@ -63,12 +60,8 @@ fn check(rt: &HostRuntime, text: &[u8], record: &[u8]) {
 }
 
 fn tell(rt: &HostRuntime, answer: Answer) {
-    if number(answer) != 0 {
-        let lines = refusal(answer);
-        let bytes = lines.bytes;
-        let len = lines.len;
-        hand_over(rt, &bytes[..len]);
-        return;
+    match answer {
+        Ok(()) => hand_over(rt, b"accepted\n"),
+        Err(_) => hand_over(rt, refusal(answer).as_bytes()),
     }
-    hand_over(rt, b"accepted\n");
 }

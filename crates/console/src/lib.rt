@@ -7,7 +7,6 @@ ghost use Rattle.io.specs.Counts.{IsPrefixLen};
 
 use answers::Answer;
 use costs::limits::VARS;
-use costs::networks::wide;
 use costs::plans::Plan;
 use std::env::{Env, FillError};
 use std::io::{Error, ErrorKind, Read, Write};
@@ -24,7 +23,8 @@ const MISSING: i32 = 22;
 // Room for what an error says.
 const REASON: usize = 256;
 
-// How many bytes came before the input ended or the buffer was full; a read that failed ends it too, and is told apart.
+// How many bytes came before the input ended or the buffer was full; a read that failed ends it too, and is told apart. No Result: what came before an
+// error still counts.
 #[derive(Clone, Copy)]
 pub struct Came {
     pub many: usize,
@@ -39,6 +39,7 @@ pub fn read_in<R: Read>(from: &mut R, buffer: &mut [u8]) -> Came
     ensures whole { result.failed ≡ None → result.many < length buffer.new → IsAtEnd (R.remaining from.new) }
 {
     let mut many: usize = 0;
+    // No `for`: what is counted is the bytes that each read delivers.
     while many < buffer.len() {
         match from.read(&mut buffer[many..]) {
             Err(error) => {
@@ -169,11 +170,7 @@ pub fn say_place(to: &impl Print, answer: Answer) {
 
 // The plan's values, a space before each.
 pub fn say_values(to: &impl Print, plan: Plan) {
-    let choice = plan.choice;
-    for v in 0..VARS {
-        if plan.len <= v {
-            return;
-        }
-        say_number(to, wide(choice[v]) as u64);
+    for choice in &plan.choice[..plan.len.min(VARS)] {
+        say_number(to, u64::from(*choice));
     }
 }

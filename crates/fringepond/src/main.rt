@@ -23,9 +23,5 @@ fn read_and_tell(rt: &HostRuntime, text: &mut [u8]) {
         tell_failure(&rt.stderr(), b"standard input", error);
         return;
     }
-    let many = came.many;
-    let lines = verdict(&text[..many]);
-    let bytes = lines.bytes;
-    let len = lines.len;
-    hand_over(rt, &bytes[..len]);
+    hand_over(rt, verdict(&text[..came.many]).as_bytes());
 }

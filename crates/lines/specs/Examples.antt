@@ -1,11 +1,11 @@
 -- Lines of document 01, computed from the definitions.
-use Rattle.std.specs.Prelude.{◌≡◌, refl, [], ◌∷◌}
-use Rattle.answers.specs.declared.Answer.TheVariants.{BadToken}
+use Rattle.std.specs.Prelude.{◌≡◌, refl, [], ◌∷◌, Err}
+use Rattle.answers.specs.declared.Refusal.TheVariants.{BadToken}
 use Rattle.lines.specs.Numerals.{shortest, numeral}
 use Rattle.lines.specs.Lines.{refusal_line}
 
 -- "A refusal prints `refused 2 at 0` alone"
-lines_refused : refusal_line (BadToken 0) ≡ 114 ∷ 101 ∷ 102 ∷ 117 ∷ 115 ∷ 101 ∷ 100 ∷ 32 ∷ 50 ∷ 32 ∷ 97 ∷ 116 ∷ 32 ∷ 48 ∷ 10 ∷ []
+lines_refused : refusal_line (Err (BadToken 0)) ≡ 114 ∷ 101 ∷ 102 ∷ 117 ∷ 115 ∷ 101 ∷ 100 ∷ 32 ∷ 50 ∷ 32 ∷ 97 ∷ 116 ∷ 32 ∷ 48 ∷ 10 ∷ []
 unfolding shortest
 lines_refused = refl
 

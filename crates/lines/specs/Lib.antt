@@ -1,3 +1,4 @@
 pub mod Numerals
+pub mod Room
 pub mod Lines
 pub mod Examples

@@ -1,26 +1,8 @@
 -- Lines of words and numbers, as the programs print them.
-use Rattle.std.specs.Prelude.{ℕ, zero, suc, ◌+◌, ◌*◌, List, [], ◌∷◌, ◌++◌, get_or, take}
-use Rattle.answers.specs.declared.Answer.{Answer}
-use Rattle.answers.specs.Answers.{number_of, place_of}
-use Rattle.costs.specs.Limits.{vars_most}
+use Rattle.std.specs.Prelude.{ℕ, zero, suc, List, [], ◌∷◌, ◌++◌, get_or, take}
+use Rattle.answers.specs.Answers.{Answer, number_of, place_of}
 use Rattle.lines.specs.declared.Lines.{Lines}
-use Rattle.lines.specs.Numerals.{numeral, numeral_most}
-
--- the longest word of a verdict or a refusal is `refused `
-abbrev pub word_most : ℕ
-word_most = 8
-
--- a space and a number for each choice
-abbrev pub choices_most : ℕ
-choices_most = vars_most * (1 + numeral_most)
-
--- what stands before the choices: a word, a number and a word
-abbrev pub head_most : ℕ
-head_most = word_most + numeral_most + word_most
-
--- the code's room for what is printed: these, another word and number, and the line's end
-abbrev pub lines_most : ℕ
-lines_most = head_most + choices_most + word_most + numeral_most + 1
+use Rattle.lines.specs.Numerals.{numeral}
 
 -- what some lines say
 abbrev pub written : Lines → List ℕ

@@ -4,11 +4,11 @@
 ghost use Rattle.std.specs.Prelude.{◌≡◌, [], ◌++◌, ◌+◌, ◌≤◌, min, length};
 ghost use Rattle.costs.specs.Limits.{vars_most};
 ghost use Rattle.lines.specs.Numerals.{numeral, numeral_most};
-ghost use Rattle.lines.specs.Lines.{head_most, choices_most, lines_most, written, refusal_line, choices_to};
+ghost use Rattle.lines.specs.Room.{head_most, choices_most, lines_most};
 
-use answers::{Answer, number, place};
+pub mod refusals;
+
 use costs::limits::VARS;
-use costs::networks::wide;
 use costs::plans::Plan;
 
 // A number of 64 bits has at most this many digits.
@@ -18,78 +18,66 @@ const WORD: usize = 8;
 // Room for two words and a number, the choices of a plan, a word, a number and the line's end.
 pub const LINES: usize = WORD + NUMERAL + WORD + VARS * (1 + NUMERAL) + WORD + NUMERAL + 1;
 
-// What is to be printed: the first so many of the bytes.
+// What is to be printed: the first so many of the bytes. No heap is used, so the room is fixed.
 #[derive(Drop)]
 pub struct Lines {
-    pub bytes: [u8; LINES],
-    pub len: usize,
+    bytes: [u8; LINES],
+    len: usize,
+    ghost in_room: { len ≤ lines_most },
 }
 
-// `refused 2 at 0`
-pub fn refusal(answer: Answer) -> Lines
-    ensures { (written result ≡ refusal_line answer) × (result.len ≤ lines_most) }
-{
-    let word = with_word(nothing(), b"refused ");
-    let which = with_number(word, number(answer));
-    let at = with_word(which, b" at ");
-    let whence = with_number(at, place(answer) as u64);
-    with_word(whence, b"\n")
-}
+impl Lines {
+    ghost use Rattle.lines.specs.Lines.{written, choices_to};
 
-pub fn nothing() -> Lines
-    ensures { (written result ≡ []) × (result.len ≡ 0) }
-{
-    Lines {
-        bytes: [0u8; LINES],
-        len: 0,
+    pub fn new() -> Self
+        ensures says { written result ≡ [] }
+        ensures len { result.len ≡ 0 }
+    {
+        Lines {
+            bytes: [0; LINES],
+            len: 0,
+        }
     }
-}
 
-// The choices of a plan, a space before each.
-pub fn with_choices(lines: Lines, plan: Plan) -> Lines
-    requires { lines.len ≤ head_most }
-    ensures { (written result ≡ written lines ++ choices_to (min plan.len vars_most) plan.choice) × (result.len ≤ head_most + choices_most) }
-{
-    let choice = plan.choice;
-    let many = at_most_vars(plan.len);
-    let mut with = lines;
-    let mut v: usize = 0;
-    while v < many {
-        let spaced = with_word(with, b" ");
-        with = with_number(spaced, wide(choice[v]) as u64);
-        v += 1;
+    pub fn with_word(mut self, word: &[u8]) -> Self
+        requires { self.len + length word.now ≤ lines_most }
+        ensures says { written result ≡ written self ++ word.now }
+        ensures len { result.len ≡ self.len + length word.now }
+    {
+        let start = self.len;
+        let end = start + word.len();
+        self.bytes[start..end].copy_from_slice(word);
+        self.len = end;
+        self
     }
-    with
-}
 
-fn at_most_vars(many: usize) -> usize
-    ensures { (result ≡ min many vars_most) × (result ≤ vars_most) }
-{
-    if many < VARS { many } else { VARS }
-}
-
-pub fn with_number(lines: Lines, n: u64) -> Lines
-    requires { lines.len + numeral_most ≤ lines_most }
-    ensures { (written result ≡ written lines ++ numeral n) × (result.len ≤ lines.len + numeral_most) }
-{
-    let mut digits = [0u8; NUMERAL];
-    let many = io::decimal(n, &mut digits);
-    with_word(lines, &digits[..many])
-}
-
-pub fn with_word(lines: Lines, word: &[u8]) -> Lines
-    requires { lines.len + length word.now ≤ lines_most }
-    ensures { (written result ≡ written lines ++ word.now) × (result.len ≡ lines.len + length word.now) }
-{
-    let mut bytes = lines.bytes;
-    let start = lines.len;
-    let mut i: usize = 0;
-    while i < word.len() {
-        bytes[start + i] = word[i];
-        i += 1;
+    pub fn with_number(self, n: u64) -> Self
+        requires { self.len + numeral_most ≤ lines_most }
+        ensures says { written result ≡ written self ++ numeral n }
+        ensures len { result.len ≤ self.len + numeral_most }
+    {
+        let mut digits = [0; NUMERAL];
+        let many = io::decimal(n, &mut digits);
+        self.with_word(&digits[..many])
     }
-    Lines {
-        bytes: bytes,
-        len: start + word.len(),
+
+    // The choices of a plan, a space before each.
+    pub fn with_choices(self, plan: Plan) -> Self
+        requires { self.len ≤ head_most }
+        ensures says { written result ≡ written self ++ choices_to (min plan.len vars_most) plan.choice }
+        ensures len { result.len ≤ head_most + choices_most }
+    {
+        let mut with = self;
+        for choice in &plan.choice[..plan.len.min(VARS)] {
+            with = with.with_word(b" ").with_number(u64::from(*choice));
+        }
+        with
+    }
+
+    // The bytes that are to be printed.
+    pub fn as_bytes(&self) -> &[u8]
+        ensures { result.now ≡ written self.now }
+    {
+        &self.bytes[..self.len]
     }
 }

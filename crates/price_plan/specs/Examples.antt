@@ -1,6 +1,7 @@
 -- Lines of price answers, computed from the definitions.
-use Rattle.std.specs.Prelude.{◌≡◌, refl, [], ◌∷◌}
-use Rattle.answers.specs.declared.Answer.TheVariants.{Done, BadPlan}
+use Rattle.std.specs.Prelude.{◌≡◌, refl, [], ◌∷◌, Err}
+use Rattle.answers.specs.Answers.{Done}
+use Rattle.answers.specs.declared.Refusal.TheVariants.{BadPlan}
 use Rattle.prices.specs.declared.breaks.Break.TheVariants.{Nowhere, Constant, Unary, Function}
 use Rattle.lines.specs.Numerals.{shortest}
 use Rattle.price_plan.specs.PriceLine.{price_line}
@@ -25,6 +26,6 @@ unfolding shortest
 line_unary = refl
 
 -- `refused 9 at 0`
-line_refused : price_line (record { answer = BadPlan 0; price = 0; broke = Nowhere }) ≡ 114 ∷ 101 ∷ 102 ∷ 117 ∷ 115 ∷ 101 ∷ 100 ∷ 32 ∷ 57 ∷ 32 ∷ 97 ∷ 116 ∷ 32 ∷ 48 ∷ 10 ∷ []
+line_refused : price_line (record { answer = Err (BadPlan 0); price = 0; broke = Nowhere }) ≡ 114 ∷ 101 ∷ 102 ∷ 117 ∷ 115 ∷ 101 ∷ 100 ∷ 32 ∷ 57 ∷ 32 ∷ 97 ∷ 116 ∷ 32 ∷ 48 ∷ 10 ∷ []
 unfolding shortest
 line_refused = refl

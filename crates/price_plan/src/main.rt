@@ -3,15 +3,15 @@
 #![tactic(auto)]
 
 ghost use Rattle.std.specs.Prelude.{◌≡◌, ◌≤◌, ◌<◌, ◌++◌};
-ghost use Rattle.lines.specs.Lines.{head_most, lines_most, written};
+ghost use Rattle.lines.specs.Room.{head_most, lines_most};
+ghost use Rattle.lines.specs.Lines.{written};
 ghost use Rattle.price_plan.specs.PriceLine.{break_words, price_line};
 
-use answers::number;
 use console::{ARGUMENT, argument_count, hand_over, read_in_argument, say, say_number};
 use costs::limits::{ENTRIES, VARS};
-use costs::networks::wide;
 use costs::plans::Plan;
-use lines::{Lines, nothing, refusal, with_number, with_word};
+use lines::Lines;
+use lines::refusals::refusal;
 use prices::breaks::Break;
 use prices::prices::Priced;
 use reader::limits::TEXT;
@@ -26,20 +26,13 @@ const NETWORK: usize = 1;
 // The argument that is the plan's first value.
 const FIRST: usize = 2;
 
-// What an argument after the network's is: a value, or none.
-#[derive(Clone, Copy)]
-enum Value {
-    Is(u8),
-    Bad,
-}
-
 fn main(rt: HostRuntime) {
     let arguments = argument_count(&rt);
     if arguments < FIRST {
         say(&rt.stderr(), b"usage: price_plan NETWORK VALUE ..\n");
         return;
     }
-    let mut text = [0u8; INPUT];
+    let mut text = [0; INPUT];
     read_and_price(&rt, &mut text, arguments);
 }
 
@@ -50,47 +43,34 @@ fn read_and_price(rt: &HostRuntime, text: &mut [u8], arguments: usize)
     if came.failed.is_some() {
         return;
     }
-    let many = came.many;
-    let mut choice = [0u8; VARS];
-    if !read_values(rt, arguments, &mut choice) {
-        return;
+    if let Some(choice) = read_values(rt, arguments) {
+        let len = arguments - FIRST;
+        price(rt, &text[..came.many], Plan { choice, len });
     }
-    let plan = Plan {
-        choice: choice,
-        len: arguments - FIRST,
-    };
-    price(rt, &text[..many], plan);
 }
 
-// Whether every value is a number. Those that a plan has no room for are looked at too, though it is refused for their count alone.
-fn read_values(rt: &HostRuntime, arguments: usize, choice: &mut [u8; VARS]) -> bool {
-    let mut argument = FIRST;
-    while argument < arguments {
-        let value = match value_in_argument(rt, argument) {
-            Value::Is(value) => value,
-            Value::Bad => return false,
-        };
-        put_value(choice, argument - FIRST, value);
-        argument += 1;
+// Those that a plan has no room for are looked at too, though it is refused for their count alone.
+fn read_values(rt: &HostRuntime, arguments: usize) -> Option<[u8; VARS]> {
+    let mut choice = [0; VARS];
+    for argument in FIRST..arguments {
+        let value = value_in_argument(rt, argument)?;
+        let v = argument - FIRST;
+        if v < VARS {
+            choice[v] = value;
+        }
     }
-    true
-}
-
-fn put_value(choice: &mut [u8; VARS], v: usize, value: u8) {
-    if v < VARS {
-        choice[v] = value;
-    }
+    Some(choice)
 }
 
 // Why there is none is told on standard error.
-fn value_in_argument(rt: &HostRuntime, argument: usize) -> Value {
-    let mut word = [0u8; ARGUMENT];
+fn value_in_argument(rt: &HostRuntime, argument: usize) -> Option<u8> {
+    let mut word = [0; ARGUMENT];
     let Ok(many) = rt.arg(argument, &mut word) else {
         say_of_argument(rt, argument, b" is too long\n");
-        return Value::Bad;
+        return None;
     };
     let value = value_of(&word[..many]);
-    if let Value::Bad = value {
+    if value.is_none() {
         say_of_argument(rt, argument, b" is not a number\n");
     }
     value
@@ -103,39 +83,27 @@ fn say_of_argument(rt: &HostRuntime, argument: usize, what: &[u8]) {
     say(&errors, what);
 }
 
-// Decimal digits, as many as there are.
-fn value_of(digits: &[u8]) -> Value {
-    if digits.len() == 0 {
-        return Value::Bad;
+// Decimal digits, as many as there are. A choice is one byte: 255 stands for every value above it. No size is above 16, so both are out of range and
+// refused 9 at the same variable.
+fn value_of(digits: &[u8]) -> Option<u8> {
+    if digits.is_empty() {
+        return None;
     }
     let mut value: u8 = 0;
-    let mut i: usize = 0;
-    while i < digits.len() {
-        let digit = digits[i];
-        if digit < b'0' {
-            return Value::Bad;
+    for digit in digits {
+        if !digit.is_ascii_digit() {
+            return None;
         }
-        if b'9' < digit {
-            return Value::Bad;
-        }
-        value = with_digit(value, digit - b'0');
-        i += 1;
+        value = value.saturating_mul(10).saturating_add(*digit - b'0');
     }
-    Value::Is(value)
-}
-
-// A choice is one byte: 255 stands for every value above it. No size is above 16, so both are out of range and refused 9 at the same variable.
-fn with_digit(value: u8, digit: u8) -> u8 {
-    let more = wide(value) * 10 + wide(digit);
-    if more < 255 { more as u8 } else { 255 }
+    Some(value)
 }
 
 fn price(rt: &HostRuntime, text: &[u8], plan: Plan) {
-    let mut held = [0u64; ENTRIES];
+    let mut held = [0; ENTRIES];
     let read = reader::reading::read(text, &mut held);
-    let unread = read.answer;
-    if number(unread) != 0 {
-        tell(rt, refusal(unread));
+    if read.answer.is_err() {
+        tell(rt, refusal(read.answer));
         return;
     }
     let net = read.network;
@@ -144,35 +112,28 @@ fn price(rt: &HostRuntime, text: &[u8], plan: Plan) {
 
 // `price 10 at function 1`
 fn line(priced: Priced) -> Lines
-    ensures { (written result ≡ price_line priced) × (result.len ≤ lines_most) }
+    ensures { written result ≡ price_line priced }
 {
-    let answer = priced.answer;
-    if number(answer) != 0 {
-        return refusal(answer);
+    if priced.answer.is_err() {
+        return refusal(priced.answer);
     }
-    let word = with_word(nothing(), b"price ");
-    let price = with_number(word, priced.price);
-    let broke = priced.broke;
-    let part = with_break(price, broke);
-    with_word(part, b"\n")
+    let price = Lines::new().with_word(b"price ").with_number(priced.price);
+    with_break(price, priced.broke).with_word(b"\n")
 }
 
 fn with_break(lines: Lines, broke: Break) -> Lines
     requires { lines.len ≤ head_most }
-    ensures { (written result ≡ written lines ++ break_words broke) × (result.len < lines_most) }
+    ensures says { written result ≡ written lines ++ break_words broke }
+    ensures len { result.len < lines_most }
 {
     match broke {
         Break::Nowhere => lines,
-        Break::Constant => with_word(lines, b" at constant"),
-        Break::Unary(v) => with_number(with_word(lines, b" at unary "), v as u64),
-        Break::Function(f) => with_number(with_word(lines, b" at function "), f as u64),
+        Break::Constant => lines.with_word(b" at constant"),
+        Break::Unary(v) => lines.with_word(b" at unary ").with_number(v as u64),
+        Break::Function(f) => lines.with_word(b" at function ").with_number(f as u64),
     }
 }
 
-fn tell(rt: &HostRuntime, lines: Lines)
-    requires { lines.len ≤ lines_most }
-{
-    let bytes = lines.bytes;
-    let len = lines.len;
-    hand_over(rt, &bytes[..len]);
+fn tell(rt: &HostRuntime, lines: Lines) {
+    hand_over(rt, lines.as_bytes());
 }

@@ -3,9 +3,9 @@
 #![tactic(auto)]
 
 ghost use Rattle.std.specs.Prelude.{◌≤◌, ◌<◌};
-ghost use Rattle.costs.specs.Limits.{entries_most};
+ghost use Rattle.costs.specs.Limits.{entries_most, functions_most};
 
-use costs::limits::{ENTRIES, FUNCTIONS, ROWS, VARS};
+use costs::limits::{ENTRIES, FUNCTIONS, ROW, ROWS, VARS};
 use costs::networks::Network;
 use std::io::Stdout;
 
@@ -25,71 +25,58 @@ struct Shape {
     reach: u64,
 }
 
+const MIDDLING: Shape = Shape {
+    vars: 12,
+    size: 4,
+    functions: 40,
+    binary: 30,
+    unary: 48,
+    pairs: 16,
+    triples: 64,
+    reach: 5,
+};
+
+const WIDE: Shape = Shape {
+    vars: 6,
+    size: 16,
+    functions: 15,
+    binary: 15,
+    unary: 96,
+    pairs: 256,
+    triples: 4096,
+    reach: 2,
+};
+
+const NARROW: Shape = Shape {
+    vars: 20,
+    size: 2,
+    functions: 130,
+    binary: 100,
+    unary: 40,
+    pairs: 4,
+    triples: 8,
+    reach: 5,
+};
+
 fn main(rt: HostRuntime) {
     let out = rt.stdout();
-    search_shape(&out, middling());
-    search_shape(&out, wide());
-    search_shape(&out, narrow());
-}
-
-fn middling() -> Shape {
-    Shape {
-        vars: 12,
-        size: 4,
-        functions: 40,
-        binary: 30,
-        unary: 48,
-        pairs: 16,
-        triples: 64,
-        reach: 5,
+    for shape in [MIDDLING, WIDE, NARROW] {
+        for seed in 1..=5 {
+            search_drawn(&out, shape, seed);
+        }
     }
-}
-
-fn wide() -> Shape {
-    Shape {
-        vars: 6,
-        size: 16,
-        functions: 15,
-        binary: 15,
-        unary: 96,
-        pairs: 256,
-        triples: 4096,
-        reach: 2,
-    }
-}
-
-fn narrow() -> Shape {
-    Shape {
-        vars: 20,
-        size: 2,
-        functions: 130,
-        binary: 100,
-        unary: 40,
-        pairs: 4,
-        triples: 8,
-        reach: 5,
-    }
-}
-
-fn search_shape(out: &Stdout, shape: Shape) {
-    search_drawn(out, shape, 1);
-    search_drawn(out, shape, 2);
-    search_drawn(out, shape, 3);
-    search_drawn(out, shape, 4);
-    search_drawn(out, shape, 5);
 }
 
 fn search_drawn(out: &Stdout, shape: Shape, seed: u64) {
-    let mut scopes = [0u8; ROWS];
+    let mut scopes = [0; ROWS];
     let after = draw_scopes(&mut scopes, shape, seed);
-    let size = shape.size;
     let net = Network {
         top: 1_000_000_000,
         constant: 0,
         vars: shape.vars,
-        sizes: [size; VARS],
+        sizes: [shape.size; VARS],
         functions: shape.functions,
-        scopes: scopes,
+        scopes,
         starts: stretches(shape),
     };
     let mut held = [0u64; ENTRIES];
@@ -120,82 +107,59 @@ fn below(n: u64, many: u64) -> u64
 }
 
 fn draw_scopes(scopes: &mut [u8; ROWS], shape: Shape, seed: u64) -> u64 {
-    let vars = shape.vars as u64;
-    let reach = shape.reach;
-    let binary = shape.binary;
-    let functions = shape.functions;
     let mut at = seed;
-    let mut f: usize = 0;
-    while f < functions {
-        at = draw_scope(scopes, vars, reach, binary, f, at);
-        f += 1;
+    for f in 0..shape.functions.min(FUNCTIONS) {
+        at = draw_scope(scopes, shape, f, at);
     }
     at
 }
 
-fn draw_scope(
-    scopes: &mut [u8; ROWS],
-    vars: u64,
-    reach: u64,
-    binary: usize,
-    f: usize,
-    seed: u64,
-) -> u64 {
-    if FUNCTIONS <= f {
-        return seed;
-    }
+fn draw_scope(scopes: &mut [u8; ROWS], shape: Shape, f: usize, seed: u64) -> u64
+    requires { f < functions_most }
+{
+    let vars = shape.vars as u64;
     let first = next(seed);
     let second = next(first);
     let third = next(second);
     let a = below(high(first), vars);
-    let b = below(a + 1 + below(high(second), reach), vars);
-    let c = below(b + 1 + below(high(third), reach), vars);
-    scopes[f * 4] = arity(f, binary);
-    scopes[f * 4 + 1] = a as u8;
-    scopes[f * 4 + 2] = b as u8;
-    scopes[f * 4 + 3] = c as u8;
+    let b = below(a + 1 + below(high(second), shape.reach), vars);
+    let c = below(b + 1 + below(high(third), shape.reach), vars);
+    scopes[f * ROW] = if f < shape.binary { 2 } else { 3 };
+    scopes[f * ROW + 1] = a as u8;
+    scopes[f * ROW + 2] = b as u8;
+    scopes[f * ROW + 3] = c as u8;
     third
 }
 
-fn arity(f: usize, binary: usize) -> u8 {
-    if f < binary { 2 } else { 3 }
-}
-
 fn stretches(shape: Shape) -> [usize; FUNCTIONS] {
-    let binary = shape.binary;
-    let pairs = shape.pairs;
-    let triples = shape.triples;
-    let mut starts = [0usize; FUNCTIONS];
+    let mut starts = [0; FUNCTIONS];
     let mut at = shape.unary;
-    let mut f: usize = 0;
-    while f < FUNCTIONS {
+    for f in 0..FUNCTIONS {
         if ENTRIES < at {
-            return starts;
+            break;
         }
         starts[f] = at;
-        at += tuples(f, binary, pairs, triples);
-        f += 1;
+        at += tuples(shape, f);
     }
     starts
 }
 
-fn tuples(f: usize, binary: usize, pairs: usize, triples: usize) -> usize
+fn tuples(shape: Shape, f: usize) -> usize
     ensures { result ≤ entries_most }
 {
-    let many = if f < binary { pairs } else { triples };
-    if ENTRIES < many {
-        return ENTRIES;
-    }
-    many
+    let many = if f < shape.binary {
+        shape.pairs
+    } else {
+        shape.triples
+    };
+    many.min(ENTRIES)
 }
 
 fn draw_costs(held: &mut [u64], seed: u64) {
     let mut at = seed;
-    let mut e: usize = 0;
-    while e < held.len() {
+    for cost in held.iter_mut() {
         at = next(at);
-        held[e] = high(at) % 50;
-        e += 1;
+        *cost = high(at) % 50;
     }
 }
 

@@ -1,322 +1,269 @@
 // The header line of a frame: the call, then numbers.
-ghost use Rattle.std.specs.Prelude.{◌≤◌};
+ghost use Rattle.std.specs.Prelude.{◌≤◌, ◌<◌, IfOk, SomeIff};
 
+use crate::lending::{Lend, lend_of};
 use console::read_in;
-use costs::limits::{FUNCTIONS, VARS};
+use costs::limits::VARS;
+use costs::plans::Plan;
+use shifts::moves::Move;
+use shifts::nodes::Node;
+use showing::Which;
 use std::io::Read;
+use std::str;
 
-// The call's own numbers and the words of a node are at most so many: those of a shift.
-pub const NUMBERS: usize = 6 + VARS;
 // A lent table has at most this many entries.
 pub const ROOM: usize = 5_000;
 // A record's buffer has at most this many bytes.
 pub const RECORD: usize = 400_000;
-// "header line 1,024 bytes"
-const LINE: usize = 1_024;
+// "header line 1,024 bytes", and its end.
+const LINE: usize = 1_025;
+// A call has at most so many numbers: those of a shift and of its node.
+const NUMBERS: usize = 6 + VARS;
+// A number has at most this many digits.
+const DIGITS: usize = 20;
 
-#[derive(Clone, Copy)]
+// Why no frame is answered.
+#[derive(Clone, Copy, Debug, PartialEq, Eq)]
+pub enum FrameError {
+    // the input has ended before it
+    Over,
+    // it is none, or cut off
+    Bad,
+}
+
+// What a frame asks for.
+#[derive(Drop)]
 pub enum Call {
-    // the input has ended
-    Over,
-    // none of these
-    Unknown,
-    Read,
-    Price,
-    Shift,
-    Pass,
-    Search,
-    Check,
-    Show,
-    Lend,
+    Read { length: usize },
+    Lend(Lend),
+    Of(NetworkCall),
 }
 
-// The numbers behind the call, the text's length first.
-#[derive(Clone, Copy)]
+// What is asked of a network.
+#[derive(Drop)]
+pub enum NetworkCall {
+    Price(Plan),
+    Shift {
+        node: Node,
+        one: Move,
+    },
+    Pass(Node),
+    Search {
+        budget: u64,
+        asked: bool,
+        room: usize,
+    },
+    // of a record of so many bytes
+    Check {
+        record: usize,
+    },
+    Show {
+        which: Which,
+        function: usize,
+    },
+}
+
+// The length of the text, and the call.
+#[derive(Drop)]
 pub struct Header {
+    pub text: usize,
     pub call: Call,
-    pub many: usize,
-    pub numbers: [u64; NUMBERS],
 }
 
-// The bytes of a line before its end.
-#[derive(Clone, Copy)]
-enum Line {
-    Over,
-    CutOff,
-    Of(usize),
-}
-
-#[derive(Clone, Copy)]
-enum Count {
-    Bad,
-    Of(usize),
-}
-
-#[derive(Clone, Copy)]
-enum Number {
-    Bad,
-    Of(u64),
-}
-
-pub fn read_header(from: &mut impl Read) -> Header {
-    let mut line = [0u8; LINE];
-    match read_line(from, &mut line) {
-        Line::Over => header_without(Call::Over),
-        Line::CutOff => header_without(Call::Unknown),
-        Line::Of(many) => header_of(&line, many),
+impl Header {
+    // Only a check has a record behind its text.
+    pub fn record_length(&self) -> usize {
+        match self.call {
+            Call::Of(NetworkCall::Check { record }) => record,
+            _ => 0,
+        }
     }
 }
 
-fn header_without(call: Call) -> Header {
-    Header {
-        call: call,
-        many: 0,
-        numbers: [0u64; NUMBERS],
-    }
+pub fn read_header(from: &mut impl Read) -> Result<Header, FrameError> {
+    let mut line = [0; LINE];
+    let many = read_line(from, &mut line)?;
+    header_of(&line[..many]).ok_or(FrameError::Bad)
 }
 
-fn read_line(from: &mut impl Read, line: &mut [u8; LINE]) -> Line {
-    let mut many: usize = 0;
-    while many <= LINE {
-        let mut one = [0u8; 1];
-        let came = read_in(from, &mut one);
-        if came.many == 0 {
-            return cut_off(many);
+// How many bytes a line has before its end.
+fn read_line(from: &mut impl Read, line: &mut [u8; LINE]) -> Result<usize, FrameError>
+    ensures { IfOk result (λ many. many ≤ 1_025) }
+{
+    for many in 0..LINE {
+        let mut one = [0];
+        if read_in(from, &mut one).many == 0 {
+            return Err(if many == 0 {
+                FrameError::Over
+            } else {
+                FrameError::Bad
+            });
         }
-        let byte = one[0];
-        if byte == b'\n' {
-            return Line::Of(many);
+        if one[0] == b'\n' {
+            return Ok(many);
         }
-        if many == LINE {
-            return Line::CutOff;
+        line[many] = one[0];
+    }
+    Err(FrameError::Bad)
+}
+
+// Each number behind one space. No heap is used, so the numbers have a fixed room.
+fn header_of(line: &[u8]) -> Option<Header> {
+    let mut words = line.split(|byte| *byte == b' ');
+    let name = words.next()?;
+    let mut room = [0; NUMBERS];
+    let mut many = 0;
+    for word in words {
+        if many == NUMBERS {
+            return None;
         }
-        line[many] = byte;
+        room[many] = number_in(word)?;
         many += 1;
     }
-    Line::CutOff
+    let [text, numbers @ ..] = &room[..many] else {
+        return None;
+    };
+    let call = match name {
+        b"read" => read_of(numbers)?,
+        b"price" => price_of(numbers)?,
+        b"shift" => shift_of(numbers)?,
+        b"pass" => Call::Of(NetworkCall::Pass(node_of(numbers)?)),
+        b"search" => search_of(numbers)?,
+        b"check" => check_of(numbers)?,
+        b"show" => show_of(numbers)?,
+        b"lend" if *text == 0 => Call::Lend(lend_of(numbers)?),
+        _ => return None,
+    };
+    Some(Header {
+        text: *text as usize,
+        call,
+    })
 }
 
-fn cut_off(many: usize) -> Line {
-    if many == 0 { Line::Over } else { Line::CutOff }
-}
-
-fn header_of(line: &[u8; LINE], many: usize) -> Header {
-    if LINE < many {
-        return header_without(Call::Unknown);
+// Digits alone: std would take a sign before them.
+fn number_in(digits: &[u8]) -> Option<u64> {
+    if digits.len() > DIGITS || !digits.iter().all(|digit| digit.is_ascii_digit()) {
+        return None;
     }
-    let word = word_end(line, 0, many);
-    let call = call_of(line, word);
-    let mut numbers = [0u64; NUMBERS];
-    match numbers_of(line, word, many, &mut numbers) {
-        Count::Bad => header_without(Call::Unknown),
-        Count::Of(count) => Header {
-            call: call,
-            many: count,
-            numbers: numbers,
-        },
-    }
+    str::from_utf8(digits).ok()?.parse().ok()
 }
 
-// Where the next space stands, or `to`.
-fn word_end(line: &[u8; LINE], from: usize, to: usize) -> usize
-    requires { (from ≤ to) × (to ≤ 1024) }
-    ensures { (from ≤ result) × (result ≤ to) }
+// A number below `end`.
+pub(crate) fn below(n: u64, end: usize) -> Option<usize>
+    ensures { SomeIff result (n < end) n }
 {
-    let mut at = from;
-    while at < to {
-        if line[at] == b' ' {
-            return at;
-        }
-        at += 1;
-    }
-    to
-}
-
-fn call_of(line: &[u8; LINE], word: usize) -> Call {
-    if is_word(line, word, b"read") {
-        return Call::Read;
-    }
-    if is_word(line, word, b"price") {
-        return Call::Price;
-    }
-    if is_word(line, word, b"shift") {
-        return Call::Shift;
-    }
-    if is_word(line, word, b"pass") {
-        return Call::Pass;
-    }
-    if is_word(line, word, b"search") {
-        return Call::Search;
-    }
-    if is_word(line, word, b"check") {
-        return Call::Check;
-    }
-    if is_word(line, word, b"show") {
-        return Call::Show;
-    }
-    if is_word(line, word, b"lend") {
-        return Call::Lend;
-    }
-    Call::Unknown
-}
-
-fn is_word(line: &[u8; LINE], word: usize, name: &[u8]) -> bool {
-    if word != name.len() {
-        return false;
-    }
-    if LINE < word {
-        return false;
-    }
-    let mut at: usize = 0;
-    while at < word {
-        if line[at] != name[at] {
-            return false;
-        }
-        at += 1;
-    }
-    true
-}
-
-// Each number behind one space.
-fn numbers_of(line: &[u8; LINE], from: usize, to: usize, numbers: &mut [u64; NUMBERS]) -> Count
-    requires { (from ≤ to) × (to ≤ 1024) }
-{
-    let mut at = from;
-    let mut count: usize = 0;
-    while at < to {
-        if NUMBERS <= count {
-            return Count::Bad;
-        }
-        if line[at] != b' ' {
-            return Count::Bad;
-        }
-        let end = word_end(line, at + 1, to);
-        let n = match number_in(line, at + 1, end) {
-            Number::Bad => return Count::Bad,
-            Number::Of(n) => n,
-        };
-        numbers[count] = n;
-        count += 1;
-        at = end;
-    }
-    Count::Of(count)
-}
-
-fn number_in(line: &[u8; LINE], from: usize, to: usize) -> Number
-    requires { (from ≤ to) × (to ≤ 1024) }
-{
-    if to == from {
-        return Number::Bad;
-    }
-    if 20 < to - from {
-        return Number::Bad;
-    }
-    let mut n: u64 = 0;
-    let mut at = from;
-    while at < to {
-        n = match with_digit(n, line[at]) {
-            Number::Bad => return Number::Bad,
-            Number::Of(more) => more,
-        };
-        at += 1;
-    }
-    Number::Of(n)
-}
-
-fn with_digit(n: u64, byte: u8) -> Number {
-    if byte < b'0' {
-        return Number::Bad;
-    }
-    if b'9' < byte {
-        return Number::Bad;
-    }
-    let digit = (byte - b'0') as u64;
-    if (u64::MAX - digit) / 10 < n {
-        return Number::Bad;
-    }
-    Number::Of(n * 10 + digit)
-}
-
-pub fn text_length(header: Header) -> usize {
-    let numbers = header.numbers;
-    numbers[0] as usize
-}
-
-// Of the calls only a check has a record behind its text.
-pub fn record_length(header: Header) -> usize {
-    let call = header.call;
-    let numbers = header.numbers;
-    match call {
-        Call::Check => numbers[1] as usize,
-        _ => 0,
+    if n < end as u64 {
+        Some(n as usize)
+    } else {
+        None
     }
 }
 
-// The numbers are as many as the call takes, and each is in its range.
-pub fn fits(header: Header) -> bool {
-    let call = header.call;
-    let many = header.many;
-    let numbers = header.numbers;
-    match call {
-        Call::Over => false,
-        Call::Unknown => false,
-        Call::Read => many == 2 && numbers[1] <= ROOM as u64,
-        Call::Price => 2 <= many && many <= 2 + VARS && bytes_from(&numbers, 2, many),
-        Call::Shift => 6 <= many && shift_fits(&numbers) && bytes_from(&numbers, 6, many),
-        Call::Pass => 1 <= many && many <= 1 + VARS && bytes_from(&numbers, 1, many),
-        Call::Search => many == 4 && numbers[2] <= 1 && numbers[3] <= RECORD as u64,
-        Call::Check => many == 2,
-        Call::Show => many == 3 && numbers[1] <= 1,
-        Call::Lend => many == 6 && numbers[0] == 0 && lend_fits(&numbers),
+fn read_of(numbers: &[u64]) -> Option<Call> {
+    let [length] = numbers else {
+        return None;
+    };
+    let length = below(*length, ROOM + 1)?;
+    Some(Call::Read { length })
+}
+
+fn price_of(numbers: &[u64]) -> Option<Call> {
+    let [count, choices @ ..] = numbers else {
+        return None;
+    };
+    let choice = bytes_of(choices)?;
+    Some(Call::Of(NetworkCall::Price(Plan {
+        choice,
+        len: *count as usize,
+    })))
+}
+
+fn shift_of(numbers: &[u64]) -> Option<Call> {
+    let [kind, function, variable, value, amount, fixed @ ..] = numbers else {
+        return None;
+    };
+    let one = move_of(*kind, *function, *variable, *value, *amount)?;
+    let node = node_of(fixed)?;
+    Some(Call::Of(NetworkCall::Shift { node, one }))
+}
+
+// "(f and a are then 0)" in a raise.
+fn move_of(kind: u64, function: u64, variable: u64, value: u64, amount: u64) -> Option<Move> {
+    let function = usize::from(u16::try_from(function).ok()?);
+    let variable = usize::from(u8::try_from(variable).ok()?);
+    let value = usize::from(u8::try_from(value).ok()?);
+    match kind {
+        2 => Some(Move::Project {
+            function,
+            variable,
+            value,
+            amount,
+        }),
+        3 => Some(Move::Extend {
+            function,
+            variable,
+            value,
+            amount,
+        }),
+        4 if function == 0 && value == 0 => Some(Move::Raise { variable, amount }),
+        _ => None,
     }
 }
 
-fn bytes_from(numbers: &[u64; NUMBERS], from: usize, many: usize) -> bool {
-    let mut at = from;
-    while at < NUMBERS {
-        if many <= at {
-            return true;
-        }
-        if 255 < numbers[at] {
-            return false;
-        }
-        at += 1;
-    }
-    true
+fn search_of(numbers: &[u64]) -> Option<Call> {
+    let [budget, asked, room] = numbers else {
+        return None;
+    };
+    let asked = match *asked {
+        0 => false,
+        1 => true,
+        _ => return None,
+    };
+    let room = below(*room, RECORD + 1)?;
+    Some(Call::Of(NetworkCall::Search {
+        budget: *budget,
+        asked,
+        room,
+    }))
 }
 
-// Kind, function, variable, value; "(f and a are then 0)" in a raise.
-fn shift_fits(numbers: &[u64; NUMBERS]) -> bool {
-    let kind = numbers[1];
-    let function = numbers[2];
-    let variable = numbers[3];
-    let value = numbers[4];
-    if kind == 4 {
-        return function == 0 && value == 0 && variable <= 255;
-    }
-    (kind == 2 || kind == 3) && function <= 65_535 && variable <= 255 && value <= 255
+fn check_of(numbers: &[u64]) -> Option<Call> {
+    let [record] = numbers else {
+        return None;
+    };
+    Some(Call::Of(NetworkCall::Check {
+        record: *record as usize,
+    }))
 }
 
-// The tables' lengths; the replaced number has a place, and the value fits it.
-fn lend_fits(numbers: &[u64; NUMBERS]) -> bool {
-    let held = numbers[1];
-    let work = numbers[2];
-    let place = numbers[4];
-    let value = numbers[5];
-    if (ROOM as u64) < held {
-        return false;
+fn show_of(numbers: &[u64]) -> Option<Call> {
+    let [which, function] = numbers else {
+        return None;
+    };
+    let which = match *which {
+        0 => Which::Held,
+        1 => Which::Worked,
+        _ => return None,
+    };
+    Some(Call::Of(NetworkCall::Show {
+        which,
+        function: *function as usize,
+    }))
+}
+
+fn node_of(numbers: &[u64]) -> Option<Node> {
+    let fixed = bytes_of(numbers)?;
+    Some(Node { fixed })
+}
+
+// The choices of a plan or the words of a node; "places not given are 0".
+fn bytes_of(numbers: &[u64]) -> Option<[u8; VARS]> {
+    if numbers.len() > VARS {
+        return None;
     }
-    if (ROOM as u64) < work {
-        return false;
+    let mut bytes = [0; VARS];
+    for (byte, n) in bytes.iter_mut().zip(numbers) {
+        *byte = u8::try_from(*n).ok()?;
     }
-    match numbers[3] {
-        0 | 1 | 2 | 3 | 5 => true,
-        4 => place < VARS as u64 && value <= 255,
-        6 => place < FUNCTIONS as u64 && value <= 255,
-        7 => place < FUNCTIONS as u64 * 3 && value <= 255,
-        8 => place < FUNCTIONS as u64,
-        9 => place < held,
-        10 => place < work,
-        _ => false,
-    }
+    Some(bytes)
 }

@@ -3,24 +3,13 @@
 ghost use Rattle.std.specs.Prelude.{◌≤◌};
 ghost use Rattle.costs.specs.Limits.{entries_most};
 
-use crate::headers::{Header, ROOM};
-use costs::limits::{ENTRIES, FUNCTIONS, ROWS, VARS};
+use crate::headers::{ROOM, below};
+use costs::limits::{ARITY, FUNCTIONS, ROW, VARS};
 use costs::networks::Network;
-use judging::{Judged, judge};
+use judging::judge;
 
 // What stands in a table's entry before anybody has written it.
 pub const UNWRITTEN: u64 = 77;
-
-#[derive(Clone, Copy)]
-pub struct Lent {
-    // whether the frame before this one was a `lend`
-    pub asked: bool,
-    pub held: usize,
-    pub work: usize,
-    pub field: u64,
-    pub place: usize,
-    pub value: u64,
-}
 
 // How many entries the held and the working table have.
 #[derive(Clone, Copy)]
@@ -29,37 +18,89 @@ pub struct Lengths {
     pub work: usize,
 }
 
-pub fn nothing_lent() -> Lent {
-    Lent {
-        asked: false,
-        held: 0,
-        work: 0,
-        field: 0,
-        place: 0,
-        value: 0,
+// What a `lend` asks for.
+#[derive(Clone, Copy)]
+pub struct Lend {
+    pub lengths: Lengths,
+    pub replaced: Option<Replaced>,
+}
+
+// The number that is replaced, where it stands, and what takes its place.
+#[derive(Clone, Copy)]
+pub enum Replaced {
+    Top(u64),
+    Constant(u64),
+    Vars(usize),
+    Size { variable: usize, size: u8 },
+    Functions(usize),
+    // a place among the functions' rows
+    Row { place: usize, value: u8 },
+    Start { function: usize, start: usize },
+    // entries of the held and the worked table
+    Held { entry: usize, cost: u64 },
+    Worked { entry: usize, cost: u64 },
+}
+
+// The place is one that the number has, and the value fits it.
+pub fn lend_of(numbers: &[u64]) -> Option<Lend> {
+    let [held, work, field, place, value] = numbers else {
+        return None;
+    };
+    let held = below(*held, ROOM + 1)?;
+    let work = below(*work, ROOM + 1)?;
+    let lengths = Lengths { held, work };
+    if *field == 0 {
+        return Some(Lend {
+            lengths,
+            replaced: None,
+        });
+    }
+    let replaced = Some(replaced_of(lengths, *field, *place, *value)?);
+    Some(Lend { lengths, replaced })
+}
+
+fn replaced_of(lengths: Lengths, field: u64, place: u64, value: u64) -> Option<Replaced> {
+    match field {
+        1 => Some(Replaced::Top(value)),
+        2 => Some(Replaced::Constant(value)),
+        3 => Some(Replaced::Vars(value as usize)),
+        4 => Some(Replaced::Size {
+            variable: below(place, VARS)?,
+            size: u8::try_from(value).ok()?,
+        }),
+        5 => Some(Replaced::Functions(value as usize)),
+        6 => Some(Replaced::Row {
+            place: below(place, FUNCTIONS)? * ROW,
+            value: u8::try_from(value).ok()?,
+        }),
+        7 => {
+            let at = below(place, FUNCTIONS * ARITY)?;
+            Some(Replaced::Row {
+                place: at / ARITY * ROW + at % ARITY + 1,
+                value: u8::try_from(value).ok()?,
+            })
+        }
+        8 => Some(Replaced::Start {
+            function: below(place, FUNCTIONS)?,
+            start: value as usize,
+        }),
+        9 => Some(Replaced::Held {
+            entry: below(place, lengths.held)?,
+            cost: value,
+        }),
+        10 => Some(Replaced::Worked {
+            entry: below(place, lengths.work)?,
+            cost: value,
+        }),
+        _ => None,
     }
 }
 
-pub fn lent_by(header: Header) -> Lent {
-    let numbers = header.numbers;
-    Lent {
-        asked: true,
-        held: numbers[1] as usize,
-        work: numbers[2] as usize,
-        field: numbers[3],
-        place: numbers[4] as usize,
-        value: numbers[5],
+pub fn lengths_lent(net: Network, table: &[u64; ROOM], lent: Option<Lend>) -> Lengths {
+    if let Some(lend) = lent {
+        return lend.lengths;
     }
-}
-
-pub fn lengths_lent(net: Network, table: &[u64; ROOM], lent: Lent) -> Lengths {
-    if lent.asked {
-        return Lengths {
-            held: lent.held,
-            work: lent.work,
-        };
-    }
-    let both = entries_of(net, table) + 2;
+    let both = entries_of(&net, table) + 2;
     Lengths {
         held: both,
         work: both,
@@ -67,105 +108,47 @@ pub fn lengths_lent(net: Network, table: &[u64; ROOM], lent: Lent) -> Lengths {
 }
 
 // E
-fn entries_of(net: Network, table: &[u64; ROOM]) -> usize
+fn entries_of(net: &Network, table: &[u64; ROOM]) -> usize
     ensures { result ≤ entries_most }
 {
-    let judged = judge(
-        &net.sizes,
-        &net.scopes,
-        &net.starts,
-        net.top,
-        net.constant,
-        net.vars,
-        net.functions,
-        table,
-        ROOM,
-    );
-    match judged {
-        Judged::Fit(o) => {
-            let many = o.entries;
-            if ENTRIES < many { 0 } else { many }
+    match judge(net, table, ROOM) {
+        Ok(judged) => judged.entries,
+        Err(_) => 0,
+    }
+}
+
+impl Replaced {
+    // The network with the number replaced.
+    pub fn in_network(self, network: Network) -> Network {
+        let mut net = network;
+        match self {
+            Replaced::Top(top) => net.top = top,
+            Replaced::Constant(constant) => net.constant = constant,
+            Replaced::Vars(vars) => net.vars = vars,
+            Replaced::Size { variable, size } => replace(&mut net.sizes, variable, size),
+            Replaced::Functions(functions) => net.functions = functions,
+            Replaced::Row { place, value } => replace(&mut net.scopes, place, value),
+            Replaced::Start { function, start } => replace(&mut net.starts, function, start),
+            Replaced::Held { .. } | Replaced::Worked { .. } => {}
         }
-        Judged::Refused(_) => 0,
+        net
     }
-}
 
-// The entry that a `lend` replaces in the table of that field.
-pub fn replace_entry(table: &mut [u64; ROOM], lent: Lent, field: u64) {
-    let place = lent.place;
-    if lent.field != field {
-        return;
-    }
-    if ROOM <= place {
-        return;
-    }
-    table[place] = lent.value;
-}
-
-// The network with the number that a `lend` replaces.
-pub fn replaced(network: Network, lent: Lent) -> Network {
-    let mut net = network;
-    let field = lent.field;
-    let place = lent.place;
-    let value = lent.value;
-    let sizes = net.sizes;
-    let scopes = net.scopes;
-    let starts = net.starts;
-    match field {
-        1 => net.top = value,
-        2 => net.constant = value,
-        3 => net.vars = value as usize,
-        4 => {
-            let with = with_size(sizes, place, byte_of(value));
-            net.sizes = with;
+    pub fn in_held(self, held: &mut [u64]) {
+        if let Replaced::Held { entry, cost } = self {
+            replace(held, entry, cost);
         }
-        5 => net.functions = value as usize,
-        6 => {
-            let with = with_place(scopes, place, 0, byte_of(value));
-            net.scopes = with;
+    }
+
+    pub fn in_worked(self, work: &mut [u64]) {
+        if let Replaced::Worked { entry, cost } = self {
+            replace(work, entry, cost);
         }
-        7 => {
-            let with = with_place(scopes, place / 3, place % 3 + 1, byte_of(value));
-            net.scopes = with;
-        }
-        8 => {
-            let with = with_start(starts, place, value as usize);
-            net.starts = with;
-        }
-        _ => {}
     }
-    net
 }
 
-fn with_size(sizes: [u8; VARS], place: usize, size: u8) -> [u8; VARS] {
-    let mut with = sizes;
-    if place < VARS {
-        with[place] = size;
+fn replace<T: Copy>(items: &mut [T], at: usize, item: T) {
+    if at < items.len() {
+        items[at] = item;
     }
-    with
-}
-
-// A place of a function's row: its arity, then its variables.
-fn with_place(scopes: [u8; ROWS], function: usize, place: usize, value: u8) -> [u8; ROWS] {
-    let mut with = scopes;
-    if FUNCTIONS <= function {
-        return with;
-    }
-    if place < 4 {
-        with[function * 4 + place] = value;
-    }
-    with
-}
-
-fn with_start(starts: [usize; FUNCTIONS], function: usize, start: usize) -> [usize; FUNCTIONS] {
-    let mut with = starts;
-    if function < FUNCTIONS {
-        with[function] = start;
-    }
-    with
-}
-
-// The header was judged: a byte's value is at most 255.
-pub fn byte_of(value: u64) -> u8 {
-    (value % 256) as u8
 }

@@ -1,27 +1,25 @@
 // Each call on a frame's text, and the line that tells what it handed back and what stands in the lent buffers.
-use answers::number;
 use console::{say, say_number, say_place, say_refusal, say_values};
-use costs::limits::{ENTRIES, FUNCTIONS, ROW, VARS};
+use costs::limits::{ENTRIES, ROW, VARS};
 use costs::networks::Network;
 use costs::plans::Plan;
 use prices::breaks::Break;
 use shifts::moves::Move;
 use shifts::nodes::Node;
-use showing::Which;
 use std::io::Stdout;
-use trial_frames::headers::{Call, Header, NUMBERS, RECORD, ROOM};
-use trial_frames::lending::{Lent, UNWRITTEN, byte_of, lengths_lent, replace_entry, replaced};
-use trial_frames::lines::{say_byte_runs, say_done, say_runs, wide};
+use trial_frames::headers::{Call, NetworkCall, RECORD, ROOM};
+use trial_frames::lending::{Lend, Lengths, UNWRITTEN, lengths_lent};
+use trial_frames::lines::{say_done, say_runs};
 
 // A record's buffer before the search.
 const UNWRITTEN_BYTE: u8 = 170;
 
-pub fn answer(out: &Stdout, header: Header, text: &[u8], record: &[u8], lent: Lent) {
-    let call = header.call;
-    let numbers = header.numbers;
+// A `lend` has no line of its own.
+pub fn answer(out: &Stdout, call: Call, text: &[u8], record: &[u8], lent: Option<Lend>) {
     match call {
-        Call::Read => call_read(out, text, numbers[1] as usize),
-        _ => answer_of_network(out, header, text, record, lent),
+        Call::Read { length } => call_read(out, text, length),
+        Call::Of(call) => answer_of_network(out, call, text, record, lent),
+        Call::Lend(_) => {}
     }
     say(out, b"\n");
 }
@@ -38,10 +36,9 @@ fn read_into(out: &Stdout, text: &[u8], whole: &mut [u64], length: usize) {
     }
     let table = &mut whole[..length];
     let read = reader::reading::read(text, table);
-    let answer = read.answer;
     let net = read.network;
-    if number(answer) != 0 {
-        say_refusal(out, answer);
+    if read.answer.is_err() {
+        say_refusal(out, read.answer);
     } else {
         say(out, b"done");
         say_number(out, net.top);
@@ -55,16 +52,10 @@ fn read_into(out: &Stdout, text: &[u8], whole: &mut [u64], length: usize) {
 
 // N and the size of each variable.
 fn say_sizes(out: &Stdout, net: &Network) {
-    let sizes = net.sizes;
     let vars = net.vars;
     say_number(out, vars as u64);
-    let mut v: usize = 0;
-    while v < VARS {
-        if vars <= v {
-            return;
-        }
-        say_number(out, wide(sizes[v]));
-        v += 1;
+    for size in &net.sizes[..vars.min(VARS)] {
+        say_number(out, u64::from(*size));
     }
 }
 
@@ -72,114 +63,91 @@ fn say_sizes(out: &Stdout, net: &Network) {
 fn say_scopes(out: &Stdout, net: &Network) {
     let functions = net.functions;
     say_number(out, functions as u64);
-    let mut f: usize = 0;
-    while f < FUNCTIONS {
-        if functions <= f {
-            return;
-        }
-        say_scope(out, net, f);
-        f += 1;
+    for row in net.scopes.chunks(ROW).take(functions) {
+        say_scope(out, row);
     }
 }
 
-fn say_scope(out: &Stdout, net: &Network, f: usize) {
-    if FUNCTIONS <= f {
+fn say_scope(out: &Stdout, row: &[u8]) {
+    let [arity, variables @ ..] = row else {
         return;
-    }
-    let scopes = net.scopes;
-    let arity = wide(scopes[f * ROW]);
-    say_number(out, arity);
-    let mut j: u64 = 0;
-    while j < 3 {
-        if arity <= j {
-            return;
-        }
-        say_number(out, wide(scopes[f * ROW + 1 + j as usize]));
-        j += 1;
+    };
+    say_number(out, u64::from(*arity));
+    for variable in variables.iter().take(usize::from(*arity)) {
+        say_number(out, u64::from(*variable));
     }
 }
 
 // Every other call asks for a text that can be read.
-fn answer_of_network(out: &Stdout, header: Header, text: &[u8], record: &[u8], lent: Lent) {
+fn answer_of_network(
+    out: &Stdout,
+    call: NetworkCall,
+    text: &[u8],
+    record: &[u8],
+    lent: Option<Lend>,
+) {
     let mut held = [UNWRITTEN; ROOM];
     let got = reader::reading::read(text, &mut held[..ENTRIES]);
-    let answer = got.answer;
-    if number(answer) != 0 {
+    if got.answer.is_err() {
         say(out, b"unread");
-        say_place(out, answer);
+        say_place(out, got.answer);
         return;
     }
     let net = got.network;
     let mut work = [UNWRITTEN; ROOM];
-    make_lent(out, header, net, &mut held, &mut work, record, lent);
+    make_lent(out, call, net, &mut held, &mut work, record, lent);
 }
 
 // "after reading one number is replaced by value"; the worked table that is shown "is made first".
 fn make_lent(
     out: &Stdout,
-    header: Header,
+    call: NetworkCall,
     read: Network,
     held: &mut [u64; ROOM],
     work: &mut [u64; ROOM],
     record: &[u8],
-    lent: Lent,
+    lent: Option<Lend>,
 ) {
     let lengths = lengths_lent(read, held, lent);
-    if asks_to_show(header) {
+    if let NetworkCall::Show { .. } = call {
         pass_free(read, held, work);
-        replace_entry(work, lent, 10);
     }
-    let net = replaced(read, lent);
-    replace_entry(held, lent, 9);
-    cut(
-        out,
-        header,
-        net,
-        held,
-        lengths.held,
-        work,
-        lengths.work,
-        record,
-    );
-}
-
-fn asks_to_show(header: Header) -> bool {
-    let call = header.call;
-    match call {
-        Call::Show => true,
-        _ => false,
+    let mut net = read;
+    if let Some(replaced) = lent.and_then(|lend| lend.replaced) {
+        if let NetworkCall::Show { .. } = call {
+            replaced.in_worked(work);
+        }
+        net = replaced.in_network(read);
+        replaced.in_held(held);
     }
+    cut(out, call, net, held, work, lengths, record);
 }
 
 // "the table after a pass at the free node"
 fn pass_free(net: Network, held: &[u64; ROOM], work: &mut [u64; ROOM]) {
-    let free = Node { fixed: [0u8; VARS] };
+    let free = Node { fixed: [0; VARS] };
     passes::pass(net, held, work, free);
 }
 
 // Lends as much of each table as was asked for, which a header that fits keeps within its room.
 fn cut(
     out: &Stdout,
-    header: Header,
+    call: NetworkCall,
     net: Network,
     held: &mut [u64],
-    held_length: usize,
     work: &mut [u64],
-    work_length: usize,
+    lengths: Lengths,
     record: &[u8],
 ) {
-    if held.len() < held_length {
-        return;
-    }
-    if work.len() < work_length {
+    if held.len() < lengths.held || work.len() < lengths.work {
         return;
     }
     make(
         out,
-        header,
+        call,
         net,
-        &mut held[..held_length],
-        &mut work[..work_length],
+        &mut held[..lengths.held],
+        &mut work[..lengths.work],
         record,
     );
 }
@@ -187,55 +155,34 @@ fn cut(
 // Makes the call on the tables that are lent.
 fn make(
     out: &Stdout,
-    header: Header,
+    call: NetworkCall,
     net: Network,
     held: &mut [u64],
     work: &mut [u64],
     record: &[u8],
 ) {
-    let call = header.call;
-    let many = header.many;
-    let numbers = header.numbers;
     match call {
-        Call::Price => call_price(out, net, held, numbers[1], given(&numbers, 2, many)),
-        Call::Shift => call_shift(out, net, held, given(&numbers, 6, many), move_of(&numbers)),
-        Call::Pass => call_pass(out, net, held, work, given(&numbers, 1, many)),
-        Call::Search => call_search(out, net, held, work, numbers[1], numbers[2], numbers[3]),
-        Call::Check => call_check(out, net, held, work, record),
-        _ => call_show(out, net, held, work, numbers[1], numbers[2]),
+        NetworkCall::Price(plan) => call_price(out, net, held, plan),
+        NetworkCall::Shift { node, one } => call_shift(out, net, held, node, one),
+        NetworkCall::Pass(node) => call_pass(out, net, held, work, node),
+        NetworkCall::Search {
+            budget,
+            asked,
+            room,
+        } => call_search(out, net, held, work, budget, asked, room),
+        NetworkCall::Check { .. } => call_check(out, net, held, work, record),
+        NetworkCall::Show { which, function } => {
+            say(out, b"part");
+            say_runs(out, showing::shown(net, held, work, which, function));
+        }
     }
 }
 
-// The choices of a plan or the words of a node; "places not given are 0".
-fn given(numbers: &[u64; NUMBERS], from: usize, many: usize) -> [u8; VARS] {
-    let mut bytes = [0u8; VARS];
-    let mut at = from;
-    let mut v: usize = 0;
-    while v < VARS {
-        if NUMBERS <= at {
-            return bytes;
-        }
-        if many <= at {
-            return bytes;
-        }
-        bytes[v] = byte_of(numbers[at]);
-        at += 1;
-        v += 1;
-    }
-    bytes
-}
-
-fn call_price(out: &Stdout, net: Network, held: &[u64], count: u64, choice: [u8; VARS]) {
-    let plan = Plan {
-        choice: choice,
-        len: count as usize,
-    };
+fn call_price(out: &Stdout, net: Network, held: &[u64], plan: Plan) {
     let priced = prices::price(net, held, plan);
-    let answer = priced.answer;
-    let broke = priced.broke;
-    say_done(out, answer, priced.price);
-    if number(answer) == 0 {
-        say_break(out, broke);
+    say_done(out, priced.answer, priced.price);
+    if priced.answer.is_ok() {
+        say_break(out, priced.broke);
     }
 }
 
@@ -254,48 +201,16 @@ fn say_break(out: &Stdout, broke: Break) {
     }
 }
 
-fn move_of(numbers: &[u64; NUMBERS]) -> Move {
-    let kind = numbers[1];
-    let function = numbers[2] as usize;
-    let variable = numbers[3] as usize;
-    let value = numbers[4] as usize;
-    let amount = numbers[5];
-    if kind == 2 {
-        return Move::Project {
-            function: function,
-            variable: variable,
-            value: value,
-            amount: amount,
-        };
-    }
-    if kind == 3 {
-        return Move::Extend {
-            function: function,
-            variable: variable,
-            value: value,
-            amount: amount,
-        };
-    }
-    Move::Raise {
-        variable: variable,
-        amount: amount,
-    }
-}
-
-fn call_shift(out: &Stdout, net: Network, table: &mut [u64], fixed: [u8; VARS], one: Move) {
-    let node = Node { fixed: fixed };
+fn call_shift(out: &Stdout, net: Network, table: &mut [u64], node: Node, one: Move) {
     let outcome = shifting::shift(net, table, node, one);
-    let answer = outcome.answer;
-    say_done(out, answer, outcome.constant);
+    say_done(out, outcome.answer, outcome.constant);
     say(out, b" table");
     say_runs(out, table);
 }
 
-fn call_pass(out: &Stdout, net: Network, held: &[u64], work: &mut [u64], fixed: [u8; VARS]) {
-    let node = Node { fixed: fixed };
+fn call_pass(out: &Stdout, net: Network, held: &[u64], work: &mut [u64], node: Node) {
     let outcome = passes::pass(net, held, work, node);
-    let answer = outcome.answer;
-    say_done(out, answer, outcome.constant);
+    say_done(out, outcome.answer, outcome.constant);
     say(out, b" work");
     say_runs(out, work);
 }
@@ -306,20 +221,11 @@ fn call_search(
     held: &[u64],
     work: &mut [u64],
     budget: u64,
-    asked: u64,
-    room: u64,
+    asked: bool,
+    room: usize,
 ) {
     let mut buffer = [UNWRITTEN_BYTE; RECORD];
-    search_into(
-        out,
-        net,
-        held,
-        work,
-        &mut buffer,
-        room as usize,
-        budget,
-        asked == 1,
-    );
+    search_into(out, net, held, work, &mut buffer, room, budget, asked);
 }
 
 fn search_into(
@@ -337,16 +243,14 @@ fn search_into(
     }
     let buffer = &mut whole[..room];
     let found = search::search(net, held, work, buffer, asked, budget);
-    let answer = found.answer;
-    if number(answer) != 0 {
-        say_refusal(out, answer);
+    if found.answer.is_err() {
+        say_refusal(out, found.answer);
     } else {
         if found.cost < net.top {
             say(out, b"cost");
             say_number(out, found.cost);
             say(out, b" plan");
-            let plan = found.plan;
-            say_values(out, plan);
+            say_values(out, found.plan);
         } else {
             say(out, b"none");
             say_number(out, found.cost);
@@ -357,33 +261,15 @@ fn search_into(
     say(out, b" work");
     say_runs(out, work);
     say(out, b" record");
-    say_byte_runs(out, buffer);
+    say_runs(out, buffer);
 }
 
 fn call_check(out: &Stdout, net: Network, held: &[u64], work: &mut [u64], record: &[u8]) {
     let answer = desk::check(net, held, work, record);
-    if number(answer) != 0 {
-        say_refusal(out, answer);
-    } else {
-        say(out, b"accepted");
+    match answer {
+        Ok(()) => say(out, b"accepted"),
+        Err(_) => say_refusal(out, answer),
     }
     say(out, b" work");
     say_runs(out, work);
-}
-
-fn call_show<'a>(
-    out: &Stdout,
-    net: Network,
-    held: &'a [u64],
-    worked: &'a [u64],
-    which: u64,
-    function: u64,
-) {
-    say(out, b"part");
-    let f = function as usize;
-    if which == 0 {
-        say_runs(out, showing::shown(net, held, worked, Which::Held, f));
-    } else {
-        say_runs(out, showing::shown(net, held, worked, Which::Worked, f));
-    }
 }

@@ -6,7 +6,8 @@ mod calls;
 mod frames;
 
 use crate::frames::frame;
-use trial_frames::lending::nothing_lent;
+use console::say;
+use trial_frames::headers::FrameError;
 
 // "T at most 70,000, R and a record's room at most 400,000"
 const TEXT: usize = 70_000;
@@ -14,21 +15,22 @@ const TEXT: usize = 70_000;
 const RECORD: usize = 400_000;
 
 fn main(rt: HostRuntime) {
-    let mut text = [0u8; TEXT];
-    let mut record = [0u8; RECORD];
-    frame_by_frame(&rt, &mut text, &mut record);
+    let mut text = [0; TEXT];
+    let mut record = [0; RECORD];
+    if let FrameError::Bad = frame_by_frame(&rt, &mut text, &mut record) {
+        say(&rt.stdout(), b"bad frame\n");
+    }
 }
 
-fn frame_by_frame(rt: &HostRuntime, text: &mut [u8], record: &mut [u8]) {
-    let mut lent = nothing_lent();
+// Why the last frame was none.
+fn frame_by_frame(rt: &HostRuntime, text: &mut [u8], record: &mut [u8]) -> FrameError {
+    let mut lent = None;
     // A proved loop ends, and nothing says that an input does: no run uses these turns up.
-    let mut turns = u64::MAX;
-    while turns > 0 {
-        let next = frame(rt, text, record, lent);
-        if !next.more {
-            return;
+    for _ in 0..u64::MAX {
+        match frame(rt, text, record, lent) {
+            Ok(next) => lent = next,
+            Err(error) => return error,
         }
-        lent = next.lent;
-        turns -= 1;
     }
+    FrameError::Over
 }

@@ -1,2 +1,1 @@
-mod VerdictLaws
 pub mod PrintedIsRight

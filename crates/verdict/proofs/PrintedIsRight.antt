@@ -1,17 +1,13 @@
 -- From the text to the lines: whatever the text, the program prints the right answer for the network that it spells, or its refusal, and no other lines
 -- would be right. Assumes nothing.
-use Prim.Native.Nat.{ℕ, zero, suc, ◌+◌, ◌-◌, ◌≤◌, ◌<◌, min}
-use mathlib.Core.Path.{◌≡◌, refl, sym, subst, fun_ext, ◌∙◌}
-use mathlib.Core.Bool.{false}
-use mathlib.Core.Logic.{inl, inr}
-use mathlib.Core.List.{List, ◌++◌}
-use native.Mathlib.Omega.{arith}
-use native.Mathlib.Decide.{dec_le, dec_lt}
-use lib.ListN.{length, get_or, drop, replicate, length-replicate, get_or-append, get_or-eq_default}
-use lib.Seq.{get_or-drop, get_or-append-add}
-use borrow.Author.Tests.{lt-ltb, le-ltb, ne_eqb}
-use Rattle.answers.specs.declared.Answer.TheVariants.{OverBudget}
-use Rattle.answers.specs.Answers.{number_of}
+use Rattle.std.proofs.Common.{ℕ, zero, suc, ◌+◌, ◌-◌, ◌≤◌, ◌<◌, min, ◌≡◌, refl, sym, subst, ◌∙◌, false, inl, inr, List, ◌++◌, arith, length, get_or, drop, replicate, get_or-drop, get_or-append-add, lt-ltb, le-ltb, ne_eqb}
+use Rattle.std.proofs.Math.Path.{fun_ext}
+use Rattle.std.proofs.Math.Decide.{dec_le, dec_lt}
+use Rattle.std.proofs.Math.ListN.{get_or-append, get_or-eq_default}
+use Rattle.std.proofs.lemmas.List.{length-replicate}
+use Rattle.std.specs.Prelude.{Err}
+use Rattle.answers.specs.declared.Refusal.TheVariants.{OverBudget}
+use Rattle.answers.specs.Answers.{refusal_number}
 use Rattle.costs.specs.Limits.{vars_most, entries_most}
 use Rattle.costs.specs.Net.{Net, Costs, costs_of}
 use Rattle.costs.specs.Networks.{stands}
@@ -53,7 +49,7 @@ module _ (n : Net) (held : Costs) (few : n.vars ≤ vars_most) (q : List ℕ) (b
   tells enough (inl c) = none_payable enough (tells_none c)
   tells enough (inr c) = cheapest enough (tells_cheapest c)
 
-over_line : (top : ℕ) (found : Searched) → found.answer ≡ OverBudget → searched_lines top found ≡ refusal_line OverBudget
+over_line : (top : ℕ) (found : Searched) → found.answer ≡ Err OverBudget → searched_lines top found ≡ refusal_line (Err OverBudget)
 over_line top found e = rw e
 
 -- ---- the costs that the program holds: those of the text, and zeros past them
@@ -108,7 +104,7 @@ printed_right text = go (reading text entries_most) refl
     go (got d next) e = inl (record { draft = d; end = next; reads = e; said = draft_said text d (spelt_right text entries_most (omega arith) d next e).0; answer = tells_spelt text entries_most (omega arith) d next e })
     go (refused a) e =
         let o = read_refuses text entries_most a (omega arith) e in
-        inr (record { why = a; refuses = e; of_text = o; told = rw (ne_eqb (number_of a) 0 (λ z. omega (arith, z, o.0))) })
+        inr (record { why = a; refuses = e; of_text = o; told = rw (ne_eqb (refusal_number a) 0 (λ z. omega (arith, z, o.0))) })
 
 -- ---- no other lines would be right
 either : (n : Net) (held : Costs) (lines : List ℕ) → TellsCheapest n held lines → NonePayable n held → ⊥

@@ -1,6 +1,6 @@
 -- Document 01's lines, computed from the definitions: of whole texts, and of a search that was ended.
-use Rattle.std.specs.Prelude.{ℕ, ◌≡◌, refl, List, [], ◌∷◌}
-use Rattle.answers.specs.declared.Answer.TheVariants.{OverBudget}
+use Rattle.std.specs.Prelude.{ℕ, ◌≡◌, refl, List, [], ◌∷◌, Err}
+use Rattle.answers.specs.declared.Refusal.TheVariants.{OverBudget}
 use Rattle.costs.specs.Cost.{minus}
 use Rattle.costs.specs.Limits.{vars_most}
 use Rattle.costs.specs.PaperNetworks.{padded}
@@ -80,6 +80,6 @@ unfolding white dark lead past token_at token_bytes text_of and_then demand digi
 examples = (refl, (refl, (refl, (refl, (refl, tt)))))
 
 -- "more nodes needed than the budget": a search that ended without a result prints its refusal
-lines_over : searched_lines 9 (record { answer = OverBudget; cost = 0; plan = record { choice = padded vars_most []; len = 0 }; nodes = 0 }) ≡ 114 ∷ 101 ∷ 102 ∷ 117 ∷ 115 ∷ 101 ∷ 100 ∷ 32 ∷ 49 ∷ 49 ∷ 32 ∷ 97 ∷ 116 ∷ 32 ∷ 48 ∷ 10 ∷ []
+lines_over : searched_lines 9 (record { answer = Err OverBudget; cost = 0; plan = record { choice = padded vars_most []; len = 0 }; nodes = 0 }) ≡ 114 ∷ 101 ∷ 102 ∷ 117 ∷ 115 ∷ 101 ∷ 100 ∷ 32 ∷ 49 ∷ 49 ∷ 32 ∷ 97 ∷ 116 ∷ 32 ∷ 48 ∷ 10 ∷ []
 unfolding shortest choices_to
 lines_over = refl

@@ -1,8 +1,8 @@
 -- What should be printed: of a text that spells a network the right answer for that network, of any other text its refusal.
-use Rattle.std.specs.Prelude.{ℕ, ◌≤◌, ◌<◌, ◌≡◌, ◌⊎◌, List, ◌++◌, length}
-use Rattle.answers.specs.declared.Answer.{Answer}
-use Rattle.answers.specs.declared.Answer.TheVariants.{OverBudget}
-use Rattle.answers.specs.Answers.{number_of}
+use Rattle.std.specs.Prelude.{ℕ, ◌≤◌, ◌<◌, ◌≡◌, ◌⊎◌, List, ◌++◌, length, Err}
+use Rattle.answers.specs.Answers.{refusal_number}
+use Rattle.answers.specs.declared.Refusal.{Refusal}
+use Rattle.answers.specs.declared.Refusal.TheVariants.{OverBudget}
 use Rattle.costs.specs.Limits.{entries_most}
 use Rattle.costs.specs.Net.{Net, Costs, costs_of}
 use Rattle.costs.specs.Networks.{stands}
@@ -32,7 +32,7 @@ pub record TellsNone (n : Net) (held : Costs) (lines : List ℕ) : Type 0 where
 pub data TellsNetwork (n : Net) (held : Costs) (lines : List ℕ) : Type 0 where
   cheapest : nodes_needed n held ≤ program_budget → TellsCheapest n held lines → TellsNetwork n held lines
   none_payable : nodes_needed n held ≤ program_budget → TellsNone n held lines → TellsNetwork n held lines
-  over_budget : program_budget < nodes_needed n held → lines ≡ refusal_line OverBudget → TellsNetwork n held lines
+  over_budget : program_budget < nodes_needed n held → lines ≡ refusal_line (Err OverBudget) → TellsNetwork n held lines
 
 -- a text that spells a network: `draft` is its numbers and costs, by which a plan's price is what the text says of it, function by function
 pub record TellsAnswer (text lines : List ℕ) : Type 0 where
@@ -44,10 +44,10 @@ pub record TellsAnswer (text lines : List ℕ) : Type 0 where
 
 -- any other text: 1 to 6, for 7 and 8 are of lent tables and numbers
 pub record TellsRefusal (text lines : List ℕ) : Type 0 where
-  pub why : Answer
+  pub why : Refusal
   pub refuses : reading text entries_most ≡ refused why
-  pub of_text : (1 ≤ number_of why) × (number_of why ≤ 6)
-  pub told : lines ≡ refusal_line why
+  pub of_text : (1 ≤ refusal_number why) × (refusal_number why ≤ 6)
+  pub told : lines ≡ refusal_line (Err why)
 
 abbrev pub RightLines : List ℕ → List ℕ → Type 0
 RightLines text lines = TellsAnswer text lines ⊎ TellsRefusal text lines

@@ -2,7 +2,7 @@
 // error, so that what a refusal leaves on standard output is no record.
 #![tactic(auto)]
 
-use answers::{Answer, number};
+use answers::Answer;
 use console::{argument_count, hand_over, read_in, say, say_refusal, tell_failure};
 use costs::limits::{ENTRIES, VARS};
 use costs::networks::Network;
@@ -34,16 +34,14 @@ fn read_and_write(rt: &HostRuntime, text: &mut [u8]) {
         tell_failure(&rt.stderr(), b"standard input", error);
         return;
     }
-    let many = came.many;
-    write_from(rt, &text[..many]);
+    write_from(rt, &text[..came.many]);
 }
 
 fn write_from(rt: &HostRuntime, text: &[u8]) {
     let mut held = [0u64; ENTRIES];
     let read = reader::reading::read(text, &mut held);
-    let answer = read.answer;
-    if number(answer) != 0 {
-        refuse(rt, answer);
+    if read.answer.is_err() {
+        refuse(rt, read.answer);
         return;
     }
     let net = read.network;
@@ -59,9 +57,8 @@ fn write_of(rt: &HostRuntime, net: Network, held: &[u64; ENTRIES], record: &mut 
 fn write_in(rt: &HostRuntime, net: Network, held: &[u64], record: &mut [u8]) {
     let mut work = [0u64; ENTRIES];
     let found = search::search(net, held, &mut work, record, true, BUDGET);
-    let answer = found.answer;
-    if number(answer) != 0 {
-        refuse(rt, answer);
+    if found.answer.is_err() {
+        refuse(rt, found.answer);
         return;
     }
     let many = told_length(record);
@@ -83,11 +80,8 @@ fn told_length(record: &[u8]) -> usize {
     }
     let values = word_at(record, 5);
     let steps = word_at(record, 7);
-    if (VARS as u64) < values {
+    if values > VARS as u64 || steps > ROOM as u64 {
         return 0;
     }
-    if (ROOM as u64) < steps {
-        return 0;
-    }
-    ((HEADER_WORDS as u64) + values + steps * (STEP_WORDS as u64)) as usize * WORD_BYTES
+    (HEADER_WORDS as u64 + values + steps * STEP_WORDS as u64) as usize * WORD_BYTES
 }
