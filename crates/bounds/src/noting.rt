@@ -90,7 +90,8 @@ fn note_values(
     count
 }
 
-// "project the least cost of the live tuples with that value, if above 0"
+// "project the least cost of the live tuples with that value, if above 0". The two lent lists, the site, a tuple's function, variable and value, and the count: nothing of it travels
+// together elsewhere.
 fn note_value(
     table: &mut [u64],
     notes: &mut [Move],

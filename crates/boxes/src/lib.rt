@@ -23,7 +23,8 @@ pub struct Block {
     pub inner: Span,
 }
 
-// What is done to each cost of a box: it takes the amount, or gives it.
+// What is done to each cost of a box: it takes the amount, or gives it. A `bool` and no enum, since `changed` and the laws of shifts speak of one; and no closure, whose
+// meaning each contract would have to say beside it.
 #[derive(Clone, Copy, Debug, PartialEq, Eq)]
 pub struct Change {
     pub takes: bool,

@@ -6,4 +6,4 @@ pub mod Tests
 pub mod Networks
 pub mod Cheapest
 pub mod PaperNetworks
-pub mod Facts
+pub mod Ties

@@ -59,7 +59,7 @@ impl Network {
         &self.scopes[first..first + self.arity(f)]
     }
 
-    // How many tuples function f has.
+    // How many tuples function f has. `Scoped` is asked for and not in a type: the judge asks this before a network has passed.
     pub fn tuples(&self, f: usize) -> usize
         requires { Scoped self.now.vars self.now.functions self.now.sizes self.now.scopes × (f < self.now.functions) }
         ensures { result ≡ tuples (λ v. get_or self.now.sizes v 0) (scope_in (in_row self.now.scopes f)) }

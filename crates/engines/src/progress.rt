@@ -14,7 +14,7 @@ use records::layout::HEADER_BYTES;
 use shifts::moves::Move;
 
 // How far the search has come. The best plan's values and the record's steps stand in lent buffers, since there is no heap: so `found` is a flag, and an `Option`
-// would hold no plan.
+// would hold no plan; and `over` beside the counts, which are told at the end too.
 #[derive(Clone, Copy, Debug, PartialEq, Eq)]
 pub struct Progress {
     pub best: u64,
@@ -91,7 +91,7 @@ fn branch_noted(out: &mut [u8], spot: Spot, i: usize, asked: bool) -> Spot
     }
 }
 
-// One more node that becomes the best: its choices are taken over.
+// One more node that becomes the best: its choices are taken over. The lent buffers stand side by side: a struct of `&mut` parts would be lent on at each call.
 pub fn found(
     plan: &mut [u8; VARS],
     out: &mut [u8],

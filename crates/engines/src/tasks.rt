@@ -3,7 +3,7 @@ ghost use Rattle.std.specs.Prelude.{◌≤◌, length};
 
 use judging::judged::Judged;
 
-// A judged network with its held costs; whether a record is asked for, and the budget.
+// A judged network with its held costs; whether a record is asked for, and the budget. It holds lent parts, and nobody compares two.
 #[derive(Clone, Copy)]
 pub struct Task<'a> {
     pub judged: &'a Judged,

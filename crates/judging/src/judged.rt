@@ -1,14 +1,14 @@
 // What the judge lets pass.
 ghost use Rattle.std.specs.Prelude.{ℕ, ◌<◌, ◌≡◌, get_or};
 ghost use Rattle.std.proofs.Props.{props};
-ghost use Rattle.costs.specs.Facts.{all_below_prop};
+ghost use Rattle.costs.specs.Ties.Facts.{all_below_prop};
 ghost use Rattle.costs.specs.Net.{start};
 ghost use Rattle.costs.specs.Networks.{outline_of, entries_of, stands, Ready};
 
 use costs::limits::VARS;
 use costs::networks::Network;
 
-// A network that nothing stands against: what the rooms above count on stands in its type.
+// A network that nothing stands against: what the rooms above count on stands in its type. Nobody compares two.
 #[derive(Clone, Copy)]
 pub struct Judged {
     pub network: Network,

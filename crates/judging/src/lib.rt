@@ -129,7 +129,7 @@ fn three_good(vars: usize, x: usize, y: usize, z: usize) -> bool
     two_good(vars, x, y) && two_good(vars, x, z) && y != z
 }
 
-// Each function's stretch begins where the one before it ends: then the end of the last is how many entries there are.
+// Each function's stretch begins where the one before it ends: then the end of the last is how many entries there are. `Scoped` is asked for, since nothing has passed yet.
 fn stretches(net: &Network) -> Option<usize>
     requires { Scoped net.now.vars net.now.functions net.now.sizes net.now.scopes }
     ensures { result ≡ stretched net.now.vars net.now.functions net.now.sizes net.now.scopes net.now.starts }
@@ -144,7 +144,7 @@ fn stretches(net: &Network) -> Option<usize>
     Some(at)
 }
 
-// The entries of the unary stretches.
+// The entries of the unary stretches. `unary_starts` is no twin: it promises where each begins, and not how many there are in all.
 fn unary_entries(net: &Network) -> usize
     requires few { net.now.vars ≤ vars_most }
     requires small { (v : ℕ) → v < net.now.vars → get_or net.now.sizes v 0 ≤ size_most }

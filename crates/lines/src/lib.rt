@@ -21,9 +21,9 @@ pub const LINES: usize = WORD + NUMERAL + WORD + VARS * (1 + NUMERAL) + WORD + N
 // What is to be printed: the first so many of the bytes. No heap is used, so the room is fixed.
 #[derive(Drop)]
 pub struct Lines {
-    bytes: [u8; LINES],
-    len: usize,
-    ghost in_room: { len ≤ lines_most },
+    pub bytes: [u8; LINES],
+    pub len: usize,
+    pub ghost in_room: { len ≤ lines_most },
 }
 
 impl Lines {

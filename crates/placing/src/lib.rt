@@ -11,7 +11,7 @@ use costs::capped::plus_of;
 use costs::limits::{ENTRIES, ROW, ROWS, VARS};
 use costs::networks::Network;
 
-// The sheet that a network is drafted on: what functions have given it so far.
+// The sheet that a network is drafted on: what functions have given it so far. It is moved and lent, never copied or compared: the table is 32 KB.
 #[derive(Drop)]
 pub struct Sheet {
     pub network: Network,

@@ -81,7 +81,7 @@ fn with_functions(judged: &Judged, choice: &[u8; VARS], table: &[u64], before: S
     sum
 }
 
-// The entry of a plan's tuple in function f.
+// The entry of a plan's tuple in function f. It asks for `Scoped` alone, as it looks at no start and no table.
 fn entry_of(net: &Network, choice: &[u8; VARS], f: usize) -> usize
     requires scoped { Scoped net.now.vars net.now.functions net.now.sizes net.now.scopes × (f < net.now.functions) }
     requires values { (v : ℕ) → v < net.now.vars → get_or choice.now v 0 < get_or net.now.sizes v 0 }

@@ -15,7 +15,7 @@ use tokens::words::read_end;
 
 // The answer, and the network: all zeros beside a refusal. No `Result<Network, Refusal>`, since "Beside a refusal and its place, everything returned
 // is zero" is promised of it (`answered`).
-#[derive(Drop)]
+#[derive(Clone, Copy, Debug, PartialEq, Eq)]
 pub struct Reading {
     pub answer: Answer,
     pub network: Network,

@@ -74,7 +74,7 @@ fn note_shifts(out: &mut [u8], spot: Spot, shifts: &[Move]) -> Spot
     next
 }
 
-// The whole record, where it is not longer than the buffer: then zeros stand behind it, else throughout.
+// The whole record, where it is not longer than the buffer: then zeros stand behind it, else throughout. Whether it fits is all that there is to hand back.
 pub fn write_record(
     out: &mut [u8],
     plan: &[u8; VARS],
@@ -140,7 +140,7 @@ fn put_values(out: &mut [u8], plan: &[u8; VARS], vars: usize)
     }
 }
 
-// Zeros from a place on.
+// Zeros from a place on: std's `fill` under the promise that the rooms above know.
 pub fn clear_from(out: &mut [u8], from: usize)
     requires { from ≤ length out.old }
     ensures { out.new ≡ take from out.old ++ replicate (length out.old - from) 0 }

@@ -16,7 +16,7 @@ const RAISE: u64 = 4;
 
 const CLOSE: u64 = 5;
 
-#[derive(Clone, Copy)]
+#[derive(Clone, Copy, Debug, PartialEq, Eq)]
 pub enum Step {
     // a variable that is not yet fixed
     Branch(usize),

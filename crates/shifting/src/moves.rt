@@ -39,6 +39,7 @@ pub fn try_shift(table: &mut [u64], site: Site, constant: u64, one: Move) -> Res
     }
 }
 
+// What a shift names goes as the case of `Move` names it.
 fn project(
     table: &mut [u64],
     site: Site,
@@ -65,6 +66,7 @@ fn project(
     Ok(constant)
 }
 
+// As `project`.
 fn extend(
     table: &mut [u64],
     site: Site,

@@ -21,7 +21,7 @@ pub record CostsLeft : Type 0 where
 abbrev pub leaves : Outcome → List ℕ → CostsLeft
 leaves r t = record { answer = r.answer; costs = costs_of r.constant t }
 
--- "8, 7, then the rest in table order": 10, "illegal node or shift", first of the node. Err costs are left where one of them is given
+-- "8, 7, then the rest in table order": 10, "illegal node or shift", first of the node. Refused costs are left where one of them is given
 abbrev pub settled : Judgement → Bool → CostsLeft → Costs → CostsLeft
 settled (Ok o) legalNode left refused = cond legalNode left (record { answer = Err Illegal; costs = refused })
 settled (Err why) legalNode left refused = record { answer = refusal_of why; costs = refused }

@@ -12,6 +12,7 @@ use boxes::{Block, Span};
 use costs::limits::VARS;
 use judging::judged::Judged;
 
+// It holds lent parts, and nobody compares two.
 #[derive(Clone, Copy)]
 pub struct Site<'a> {
     pub judged: &'a Judged,

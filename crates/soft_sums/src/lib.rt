@@ -56,6 +56,7 @@ pub enum Comparator {
     AtLeast,
 }
 
+// An `if` for each word, as for `Mode`.
 impl Word for Comparator {
     ghost words = { comparators };
 

@@ -8,6 +8,7 @@ ghost use Rattle.spelling.specs.Ties.Standing.{Upright, LeadsTo, said, node_at, 
 use costs::limits::VARS;
 use costs::networks::Network;
 
+// There is no heap: the branches stand in a fixed room, and `depth` says how many they are.
 #[derive(Clone, Copy, Debug, PartialEq, Eq)]
 pub struct Place {
     // the node: 0 where a variable is free, v + 1 where it is fixed to v

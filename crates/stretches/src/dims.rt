@@ -3,7 +3,7 @@ ghost use Rattle.std.specs.Prelude.{◌≡◌};
 ghost use Rattle.stretches.specs.Sizes.{product};
 ghost use Rattle.stretches.specs.Ties.Small.{Small};
 
-// The sizes of a scope's variables.
+// The sizes of a scope's variables. It holds a lent part, and nobody compares two.
 #[derive(Clone, Copy)]
 pub struct Dims<'a> {
     pub sizes: &'a [u64],

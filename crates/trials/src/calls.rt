@@ -98,7 +98,8 @@ fn answer_of_network(
     make_lent(out, call, net, &mut held, &mut work, record, lent);
 }
 
-// "after reading one number is replaced by value"; the worked table that is shown "is made first".
+// "after reading one number is replaced by value"; the worked table that is shown "is made first". What a frame lends is handed on part by part, here and below, since the tables are
+// lent for writing.
 fn make_lent(
     out: &Stdout,
     call: NetworkCall,

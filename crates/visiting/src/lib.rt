@@ -13,7 +13,8 @@ use engines::tasks::Task;
 use shifts::moves::Move;
 use shifts::sites::Site;
 
-// The node that fixes the first `depth` variables, and all below it.
+// The node that fixes the first `depth` variables, and all below it. The lent buffers stand side by side: a struct of `&mut` parts would be lent on at each call of the
+// recursion.
 pub fn visit(
     work: &mut [u64],
     notes: &mut [Move],
@@ -56,6 +57,7 @@ struct Seen {
 
 // "passed. If the constant is at least best, it closes. Else, if every variable is fixed, its plan and constant become the best, and it closes. Else the lowest
 // unfixed variable is branched"
+// The buffers as in `visit`.
 fn look(
     work: &mut [u64],
     notes: &mut [Move],

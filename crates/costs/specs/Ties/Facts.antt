@@ -1,4 +1,4 @@
--- What is said of a network's sizes and scopes has one proof at most, so that a struct may keep it.
+-- Ties: what is said of a network's sizes and scopes has one proof at most, so that a struct may keep it.
 use Rattle.std.specs.Prelude.{ℕ, ◌<◌, List, [], ◌∷◌}
 use Rattle.std.specs.Coded.{×_prop, Unit-prop, le_prop}
 use Rattle.costs.specs.Net.{All}
