@@ -39,6 +39,7 @@ impl Lines {
         }
     }
 
+    // Room is asked for by each method that adds, and is in no type, as each asks for another amount.
     pub fn with_word(mut self, word: &[u8]) -> Self
         requires { self.len + length word.now ≤ lines_most }
         ensures says { written result ≡ written self ++ word.now }

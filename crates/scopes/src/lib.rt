@@ -16,6 +16,7 @@ use stretches::byte_in;
 use tokens::numbers::{Seen, any_number};
 
 // What a scope is read against: how many variables there are, their sizes, and the entries of the functions before.
+// It holds a lent part, and nobody compares two.
 #[derive(Clone, Copy)]
 struct Domains<'a> {
     sizes: &'a [u8],

@@ -9,6 +9,7 @@ use costs::limits::{ENTRIES, FUNCTIONS, ROW, ROWS, VARS};
 use costs::networks::Network;
 use std::io::Stdout;
 
+// Nobody compares two.
 #[derive(Clone, Copy)]
 struct Shape {
     // N, and the size of each domain

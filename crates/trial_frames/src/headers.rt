@@ -31,7 +31,7 @@ pub enum FrameError {
     Bad,
 }
 
-// What a frame asks for.
+// What a frame asks for. Nobody compares two, here and of what it holds.
 #[derive(Drop)]
 pub enum Call {
     Read { length: usize },
@@ -63,7 +63,7 @@ pub enum NetworkCall {
     },
 }
 
-// The length of the text, and the call.
+// The length of the text, and the call. Nobody compares two.
 #[derive(Drop)]
 pub struct Header {
     pub text: usize,

@@ -11,21 +11,21 @@ use judging::judge;
 // What stands in a table's entry before anybody has written it.
 pub const UNWRITTEN: u64 = 77;
 
-// How many entries the held and the working table have.
+// How many entries the held and the working table have. Nobody compares two.
 #[derive(Clone, Copy)]
 pub struct Lengths {
     pub held: usize,
     pub work: usize,
 }
 
-// What a `lend` asks for.
+// What a `lend` asks for. Nobody compares two.
 #[derive(Clone, Copy)]
 pub struct Lend {
     pub lengths: Lengths,
     pub replaced: Option<Replaced>,
 }
 
-// The number that is replaced, where it stands, and what takes its place.
+// The number that is replaced, where it stands, and what takes its place. Nobody compares two.
 #[derive(Clone, Copy)]
 pub enum Replaced {
     Top(u64),
