@@ -69,7 +69,7 @@ leads_next step i count many more t u v notes noted last g h constant w e = rw (
 
 module _ (site : Site) where
   abbrev net : Network
-  net = site.judged.now.network
+  net = site.judged.now.network.now
 
   abbrev n : Net
   n = net_at site

@@ -37,7 +37,7 @@ pub struct Noted {
 pub fn pass_noting(table: &mut [u64], notes: &mut [Move], site: Site) -> Noted
     requires roomy { entries (net_at site) ≤ length table.old }
     requires notes_room { notes_most ≤ length notes.old }
-    ensures { (result.count ≤ notes_most) × (costs_of result.constant table.new ≡ (pass (net_at site.entry) (lives site.entry) (costs_of site.entry.judged.now.network.constant table.old)).costs) × (take result.count notes.new ≡ (pass (net_at site.entry) (lives site.entry) (costs_of site.entry.judged.now.network.constant table.old)).shifts) }
+    ensures { (result.count ≤ notes_most) × (costs_of result.constant table.new ≡ (pass (net_at site.entry) (lives site.entry) (costs_of site.entry.judged.now.network.now.constant table.old)).costs) × (take result.count notes.new ≡ (pass (net_at site.entry) (lives site.entry) (costs_of site.entry.judged.now.network.now.constant table.old)).shifts) }
 {
     let count = note_projections(table, notes, site);
     note_raises(table, notes, site, count)
@@ -47,7 +47,7 @@ pub fn pass_noting(table: &mut [u64], notes: &mut [Move], site: Site) -> Noted
 fn note_projections(table: &mut [u64], notes: &mut [Move], site: Site) -> usize
     requires roomy { entries (net_at site) ≤ length table.old }
     requires notes_room { notes_most ≤ length notes.old }
-    ensures { (result ≤ site.entry.judged.now.network.functions * scope_notes) × Leads (projections (net_at site.entry) (lives site.entry)) table.old notes.old 0 table.new notes.new result }
+    ensures { (result ≤ site.entry.judged.now.network.now.functions * scope_notes) × Leads (projections (net_at site.entry) (lives site.entry)) table.old notes.old 0 table.new notes.new result }
 {
     let mut count = 0;
     for f in 0..site.judged.network.functions {
@@ -59,8 +59,8 @@ fn note_projections(table: &mut [u64], notes: &mut [Move], site: Site) -> usize
 // "each variable of its scope in order"
 fn note_scope(table: &mut [u64], notes: &mut [Move], site: Site, f: usize, before: usize) -> usize
     requires roomy { entries (net_at site) ≤ length table.old }
-    requires known { (f < site.judged.now.network.functions) × (before + scope_notes ≤ length notes.old) }
-    ensures { (result ≤ before + scope_notes) × Leads (at_scope (net_at site.entry) (lives site.entry) f (scope_in (in_row site.entry.judged.now.network.scopes f))) table.old notes.old before table.new notes.new result }
+    requires known { (f < site.judged.now.network.now.functions) × (before + scope_notes ≤ length notes.old) }
+    ensures { (result ≤ before + scope_notes) × Leads (at_scope (net_at site.entry) (lives site.entry) f (scope_in (in_row site.entry.judged.now.network.now.scopes f))) table.old notes.old before table.new notes.new result }
 {
     let mut count = before;
     for i in site.judged.network.scope(f) {
@@ -79,8 +79,8 @@ fn note_values(
     before: usize,
 ) -> usize
     requires roomy { entries (net_at site) ≤ length table.old }
-    requires known { (f < site.judged.now.network.functions) × (i < site.judged.now.network.vars) × (before + size_most ≤ length notes.old) }
-    ensures { (result ≤ before + size_most) × Leads (each_to (at_value (net_at site.entry) (lives site.entry) f i) (get_or site.entry.judged.now.network.sizes i 0)) table.old notes.old before table.new notes.new result }
+    requires known { (f < site.judged.now.network.now.functions) × (i < site.judged.now.network.now.vars) × (before + size_most ≤ length notes.old) }
+    ensures { (result ≤ before + size_most) × Leads (each_to (at_value (net_at site.entry) (lives site.entry) f i) (get_or site.entry.judged.now.network.now.sizes i 0)) table.old notes.old before table.new notes.new result }
 {
     let x = site.span(i);
     let mut count = before;
@@ -102,7 +102,7 @@ fn note_value(
     before: usize,
 ) -> usize
     requires roomy { entries (net_at site) ≤ length table.old }
-    requires known { (f < site.judged.now.network.functions) × (i < site.judged.now.network.vars) × (a < get_or site.judged.now.network.sizes i 0) × (lives site i a ≡ true) }
+    requires known { (f < site.judged.now.network.now.functions) × (i < site.judged.now.network.now.vars) × (a < get_or site.judged.now.network.now.sizes i 0) × (lives site i a ≡ true) }
     requires notes_room { before + 1 ≤ length notes.old }
     ensures { (result ≤ before + 1) × Leads (at_value (net_at site.entry) (lives site.entry) f i a) table.old notes.old before table.new notes.new result }
 {
@@ -123,10 +123,10 @@ fn note_value(
 // "Then for each variable ascending"
 fn note_raises(table: &mut [u64], notes: &mut [Move], site: Site, before: usize) -> Noted
     requires roomy { entries (net_at site) ≤ length table.old }
-    requires notes_room { (before ≤ site.judged.now.network.functions * scope_notes) × (notes_most ≤ length notes.old) }
-    ensures { (result.count ≤ notes_most) × LeadsOn (each_to (at_variable (net_at site.entry) (lives site.entry)) site.entry.judged.now.network.vars) site.entry.judged.now.network.constant table.old notes.old before result.constant table.new notes.new result.count }
+    requires notes_room { (before ≤ site.judged.now.network.now.functions * scope_notes) × (notes_most ≤ length notes.old) }
+    ensures { (result.count ≤ notes_most) × LeadsOn (each_to (at_variable (net_at site.entry) (lives site.entry)) site.entry.judged.now.network.now.vars) site.entry.judged.now.network.now.constant table.old notes.old before result.constant table.new notes.new result.count }
 {
-    let net = &site.judged.network;
+    let net = site.judged.network;
     let mut constant = net.constant;
     let mut count = before;
     for i in 0..net.vars {

@@ -37,13 +37,13 @@ pub fn answered(net: &Network, held: &[u64], work: &mut [u64], bytes: &[u8]) -> 
 fn bytes_fault(judged: &Judged, held: &[u64], work: &mut [u64], bytes: &[u8]) -> Kept
     requires working { judged.now.entries ≤ length work.old }
     requires holding { judged.now.entries ≤ length held.now }
-    ensures { result ≡ bytes_fault (stands judged.now.network) (costs_of judged.now.network.constant held.now) bytes.now }
+    ensures { result ≡ bytes_fault (stands judged.now.network.now) (costs_of judged.now.network.now.constant held.now) bytes.now }
 {
     let size = bytes.len();
     if size < HEADER_BYTES || size % WORD_BYTES != 0 {
         return Err(0);
     }
-    header_fault(bytes, size / WORD_BYTES, &judged.network)?;
+    header_fault(bytes, size / WORD_BYTES, judged.network)?;
     plan_fault(judged, held, bytes)?;
     tree_fault(judged, held, work, bytes)
 }
@@ -51,13 +51,13 @@ fn bytes_fault(judged: &Judged, held: &[u64], work: &mut [u64], bytes: &[u8]) ->
 // The values and the price of the plan, where there is one.
 fn plan_fault(judged: &Judged, held: &[u64], bytes: &[u8]) -> Kept
     requires holding { judged.now.entries ≤ length held.now }
-    requires words { (header_words * word_bytes ≤ length bytes.now) × ((header_words + count_of judged.now.network.vars (word_at bytes.now)) * word_bytes ≤ length bytes.now) }
-    ensures { result ≡ fault_in (cond (eqb (word_at bytes.now 2) 0) (plan_rules (stands judged.now.network) (costs_of judged.now.network.constant held.now) (word_at bytes.now)) []) no_fault }
+    requires words { (header_words * word_bytes ≤ length bytes.now) × ((header_words + count_of judged.now.network.now.vars (word_at bytes.now)) * word_bytes ≤ length bytes.now) }
+    ensures { result ≡ fault_in (cond (eqb (word_at bytes.now 2) 0) (plan_rules (stands judged.now.network.now) (costs_of judged.now.network.now.constant held.now) (word_at bytes.now)) []) no_fault }
 {
     if word_at(bytes, 2) != 0 {
         return Ok(());
     }
-    values_fault(bytes, &judged.network)?;
+    values_fault(bytes, judged.network)?;
     let choice = plan_told(bytes, judged.network.vars);
     if price_of(judged, &choice, held).price != word_at(bytes, 3) {
         return Err(3);
@@ -69,12 +69,14 @@ fn plan_fault(judged: &Judged, held: &[u64], bytes: &[u8]) -> Kept
 fn tree_fault(judged: &Judged, held: &[u64], work: &mut [u64], bytes: &[u8]) -> Kept
     requires working { judged.now.entries ≤ length work.old }
     requires holding { judged.now.entries ≤ length held.now }
-    requires words { (header_words + count_of judged.now.network.vars (word_at bytes.now) + step_words * word_at bytes.now 7) * word_bytes ≤ length bytes.now }
-    ensures { result ≡ steps_fault (claims (stands judged.now.network) (costs_of judged.now.network.constant held.now) (word_at bytes.now)) (step_at (word_at bytes.now)) (word_at bytes.now 7) (header_words + count_of judged.now.network.vars (word_at bytes.now)) (root (stands judged.now.network) ∷ []) none }
+    requires words { (header_words + count_of judged.now.network.now.vars (word_at bytes.now) + step_words * word_at bytes.now 7) * word_bytes ≤ length bytes.now }
+    ensures { result ≡ steps_fault (claims (stands judged.now.network.now) (costs_of judged.now.network.now.constant held.now) (word_at bytes.now)) (step_at (word_at bytes.now)) (word_at bytes.now 7) (header_words + count_of judged.now.network.now.vars (word_at bytes.now)) (root (stands judged.now.network.now) ∷ []) none }
 {
     copy_in(work, held, judged.entries);
+    let firsts = judged.firsts();
     let claimed = Claimed {
         judged,
+        firsts: &firsts,
         held,
         cost: word_at(bytes, 3),
     };

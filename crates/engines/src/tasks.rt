@@ -1,14 +1,20 @@
 // What a search is to do.
-ghost use Rattle.std.specs.Prelude.{◌≤◌, length};
+ghost use Rattle.std.specs.Prelude.{ℕ, ◌≤◌, ◌<◌, ◌≡◌, get_or, length};
+ghost use Rattle.costs.specs.Net.{start};
+ghost use Rattle.costs.specs.Networks.{stands};
 
+use costs::limits::VARS;
 use judging::judged::Judged;
 
 // A judged network with its held costs; whether a record is asked for, and the budget. It holds lent parts, and nobody compares two.
 #[derive(Clone, Copy)]
 pub struct Task<'a> {
-    pub judged: &'a Judged,
+    pub judged: &'a Judged<'a>,
+    // where each variable's unary stretch begins
+    pub firsts: &'a [usize; VARS],
     pub held: &'a [u64],
     pub asked: bool,
     pub budget: u64,
+    pub ghost first: { (v : ℕ) → v < judged.now.network.now.vars → get_or firsts.now v 0 ≡ start (stands judged.now.network.now) v },
     pub ghost whole: { judged.now.entries ≤ length held.now },
 }

@@ -21,14 +21,14 @@ use recorder::{clear_from, value_count, write_record};
 // What is handed back after a search, with the record where one is asked for: refusals 11 and 12, in that order.
 pub fn tell(out: &mut [u8], plan: &[u8; VARS], task: Task, done: Progress) -> Searched
     requires behind { task.asked ≡ true → Behind out.old done.spot }
-    requires plan { done.over ≡ false → done.best < task.judged.now.network.top → IsPlan (stands task.judged.now.network) (value_in plan.now) }
-    ensures { Told task.entry.judged.now.network task.entry.held.now task.entry.asked done plan.now out.old result out.new }
+    requires plan { done.over ≡ false → done.best < task.judged.now.network.now.top → IsPlan (stands task.judged.now.network.now) (value_in plan.now) }
+    ensures { Told task.entry.judged.now.network.now task.entry.held.now task.entry.asked done plan.now out.old result out.new }
 {
     if done.over {
         clear_from(out, 0);
         return refused(Err(Refusal::OverBudget));
     }
-    let net = &task.judged.network;
+    let net = task.judged.network;
     let found = done.best < net.top;
     let cost = cost_of(plan, task, found);
     if !task.asked {
@@ -41,8 +41,8 @@ pub fn tell(out: &mut [u8], plan: &[u8; VARS], task: Task, done: Progress) -> Se
 
 // "The desk and the search use the same price answer": the cost that is told is that of the plan which was found; of none it is the bound.
 fn cost_of(plan: &[u8; VARS], task: Task, found: bool) -> u64
-    requires plan { found ≡ true → IsPlan (stands task.judged.now.network) (value_in plan.now) }
-    ensures { result ≡ cost_told (stands task.entry.judged.now.network) (costs_of task.entry.judged.now.network.constant task.entry.held.now) found plan.now }
+    requires plan { found ≡ true → IsPlan (stands task.judged.now.network.now) (value_in plan.now) }
+    ensures { result ≡ cost_told (stands task.entry.judged.now.network.now) (costs_of task.entry.judged.now.network.now.constant task.entry.held.now) found plan.now }
 {
     if found {
         price_of(task.judged, plan, task.held).price

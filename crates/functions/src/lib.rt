@@ -7,7 +7,7 @@ ghost use Rattle.tokens.specs.Tokens.{text_of};
 ghost use Rattle.tokens.specs.Ties.Outcomes.{pos_is};
 ghost use Rattle.scopes.specs.Scopes.{scope_sizes};
 ghost use Rattle.function_costs.specs.FunctionCosts.{costs};
-ghost use Rattle.placing.specs.Ties.Sheets.{drafted};
+ghost use Rattle.placing.specs.Ties.Sheets.{drafted, Stays};
 ghost use Rattle.functions.specs.Functions.{placed, function, functions};
 ghost use Rattle.functions.specs.Ties.Scopes.{Told};
 
@@ -28,7 +28,8 @@ pub fn read_functions(
     many: usize,
 ) -> Result<usize, Refusal>
     requires { draft.old.network.functions + many ≤ functions_most }
-    ensures { pos_is result (drafted draft.new) ≡ functions many (drafted draft.old) (text_of text.now) at }
+    ensures value { pos_is result (drafted draft.new) ≡ functions many (drafted draft.old) (text_of text.now) at }
+    ensures stays { Stays draft.old draft.new }
 {
     let mut next = at;
     for _ in 0..many {
@@ -41,7 +42,8 @@ pub fn read_functions(
 #[tactic(auto, unfolding(crate::specs::Functions::function, tokens::specs::Steps::and_then))]
 fn read_function(draft: &mut Sheet, text: &[u8], at: usize) -> Result<usize, Refusal>
     requires { draft.old.network.functions < functions_most }
-    ensures { pos_is result (drafted draft.new) ≡ function (drafted draft.old) (text_of text.now) at }
+    ensures value { pos_is result (drafted draft.new) ≡ function (drafted draft.old) (text_of text.now) at }
+    ensures stays { Stays draft.old draft.new }
 {
     let found = number_in(text, at, 0, ARITY as u64)?;
     let arity = found.value as usize;
@@ -63,8 +65,9 @@ fn read_function(draft: &mut Sheet, text: &[u8], at: usize) -> Result<usize, Ref
 fn read_placed(draft: &mut Sheet, text: &[u8], at: usize, scope: &[u8]) -> Result<usize, Refusal>
     requires told { Told draft.old scope.now }
     requires functions_lt_functions_most { draft.old.network.functions < functions_most }
-    ensures { pos_is result (drafted draft.new)
+    ensures value { pos_is result (drafted draft.new)
         ≡ placed (drafted draft.old) scope.now (costs draft.old.network.top (scope_sizes draft.old.network.sizes scope.now) (text_of text.now) at) }
+    ensures stays { Stays draft.old draft.new }
 {
     match scope {
         [] => read_constant(draft, text, at),
@@ -75,7 +78,8 @@ fn read_placed(draft: &mut Sheet, text: &[u8], at: usize, scope: &[u8]) -> Resul
 
 // Arity 0: into the constant.
 fn read_constant(draft: &mut Sheet, text: &[u8], at: usize) -> Result<usize, Refusal>
-    ensures { pos_is result (drafted draft.new) ≡ placed (drafted draft.old) [] (costs draft.old.network.top [] (text_of text.now) at) }
+    ensures value { pos_is result (drafted draft.new) ≡ placed (drafted draft.old) [] (costs draft.old.network.top [] (text_of text.now) at) }
+    ensures stays { Stays draft.old draft.new }
 {
     let mut cells = [0u64; 1];
     let next = read_costs(&mut cells, text, at, Dims { sizes: &[] }, draft.network.top)?;
@@ -86,8 +90,9 @@ fn read_constant(draft: &mut Sheet, text: &[u8], at: usize) -> Result<usize, Ref
 // Arity 1: into the variable's unary costs.
 fn read_unary(draft: &mut Sheet, text: &[u8], at: usize, x: usize) -> Result<usize, Refusal>
     requires { x < draft.old.network.vars }
-    ensures { pos_is result (drafted draft.new)
+    ensures value { pos_is result (drafted draft.new)
         ≡ placed (drafted draft.old) (x ∷ []) (costs draft.old.network.top (scope_sizes draft.old.network.sizes (x ∷ [])) (text_of text.now) at) }
+    ensures stays { Stays draft.old draft.new }
 {
     let size = draft.network.size(x);
     let mut cells = [0u64; SIZE];
@@ -102,8 +107,9 @@ fn read_unary(draft: &mut Sheet, text: &[u8], at: usize, x: usize) -> Result<usi
 fn read_numbered(draft: &mut Sheet, text: &[u8], at: usize, scope: &[u8]) -> Result<usize, Refusal>
     requires told { Told draft.old scope.now }
     requires functions_lt_functions_most { (draft.old.network.functions < functions_most) × (2 ≤ length scope.now) }
-    ensures { pos_is result (drafted draft.new)
+    ensures value { pos_is result (drafted draft.new)
         ≡ placed (drafted draft.old) scope.now (costs draft.old.network.top (scope_sizes draft.old.network.sizes scope.now) (text_of text.now) at) }
+    ensures stays { Stays draft.old draft.new }
 {
     let mut dims = [0u64; ARITY];
     fill_sizes(&mut dims, scope, &draft.network.sizes, scope.len());

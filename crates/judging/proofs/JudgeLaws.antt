@@ -18,7 +18,7 @@ use Rattle.judging.specs.declared.Unfit.TheVariants.{NoNetwork, TooShort}
 use Rattle.judging.specs.Judging.{ranges_good, sizes_good, variables_good, row_good, scopes_good, stretches_good, costs_good, is_network, judged, IsNetwork, Lent}
 use Rattle.judging.specs.declared.judged.Judged.{Judged}
 use Rattle.judging.specs.Ties.Stretches.{stretched}
-use Rattle.judging.specs.Ties.Outlined.{outline_in}
+use Rattle.judging.specs.Outlined.{outline_in}
 
 -- two tests that decide the same
 pub same_by : {a b : Bool} {A B : Type 0} → Decides a A → Decides b B → (A → B) → (B → A) → a ≡ b

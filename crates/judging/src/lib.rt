@@ -11,10 +11,9 @@ ghost use Rattle.costs.specs.Range.{sum_to};
 ghost use Rattle.costs.specs.Networks.{in_row, Scoped};
 ghost use Rattle.judging.specs.Judging.{ranges_good, sizes_good, variables_good, row_good, scopes_good, costs_good, judged, refusal_of};
 ghost use Rattle.judging.specs.Ties.Stretches.{stretched};
-ghost use Rattle.judging.specs.Ties.Outlined.{outlined};
+ghost use Rattle.judging.specs.Outlined.{outlined};
 
 use crate::judged::Judged;
-use crate::starts::unary_starts;
 use answers::Refusal;
 use costs::limits::{COST, ENTRIES, FUNCTIONS, SIZE, VARS};
 use costs::networks::{Network, row_at};
@@ -44,9 +43,9 @@ impl From<Unfit> for Refusal {
 }
 
 // `room` is the length of the shortest table that is lent.
-pub fn judge(net: &Network, table: &[u64], room: usize) -> Result<Judged, Unfit>
+pub fn judge<'a>(net: &'a Network, table: &[u64], room: usize) -> Result<Judged<'a>, Unfit>
     ensures value { outlined result ≡ judged net.now table.now room }
-    ensures network { IfOk result (λ passed. passed.network ≡ net.now) }
+    ensures network { IfOk result (λ passed. passed.network.now ≡ net.now) }
 {
     if !ranges_good(net) || !sizes_good(net) || !scopes_good(net) {
         return Err(Unfit::NoNetwork);
@@ -61,8 +60,7 @@ pub fn judge(net: &Network, table: &[u64], room: usize) -> Result<Judged, Unfit>
         return Err(Unfit::TooShort);
     }
     Ok(Judged {
-        network: *net,
-        firsts: unary_starts(&net.sizes, net.vars),
+        network: net,
         entries: many,
     })
 }

@@ -1,8 +1,11 @@
 // Where the unary stretches begin.
 ghost use Rattle.std.specs.Prelude.{ℕ, ◌≤◌, ◌<◌, ◌≡◌, get_or};
 ghost use Rattle.costs.specs.Limits.{vars_most, size_most};
+ghost use Rattle.costs.specs.Net.{start};
+ghost use Rattle.costs.specs.Networks.{stands};
 ghost use Rattle.costs.specs.Range.{sum_to};
 
+use crate::judged::Judged;
 use costs::limits::VARS;
 
 // Where each variable's unary stretch begins.
@@ -18,4 +21,13 @@ pub fn unary_starts(sizes: &[u8; VARS], vars: usize) -> [usize; VARS]
         at += usize::from(sizes[v]);
     }
     firsts
+}
+
+impl<'a> Judged<'a> {
+    // The same of a judged network. What works on costs is lent them; what prices or shows them needs none.
+    pub fn firsts(&self) -> [usize; VARS]
+        ensures { (v : ℕ) → v < self.now.network.now.vars → get_or result v 0 ≡ start (stands self.now.network.now) v }
+    {
+        unary_starts(&self.network.sizes, self.network.vars)
+    }
 }

@@ -10,7 +10,7 @@ use Rattle.costs.proofs.RowLaws.{scoped_sound}
 use Rattle.judging.specs.declared.Unfit.{Unfit}
 use Rattle.judging.specs.declared.judged.Judged.{Judged}
 use Rattle.judging.specs.Judging.{judged, refusal_of}
-use Rattle.judging.specs.Ties.Outlined.{outline_in}
+use Rattle.judging.specs.Outlined.{outline_in}
 use Rattle.judging.proofs.JudgeLaws.{judged-passed}
 use Rattle.shifts.specs.declared.nodes.Node.{Node}
 use Rattle.shifts.specs.declared.sites.Site.{Site}
@@ -34,8 +34,8 @@ module _ (net : Network) (held work : List ℕ) (node : Node) (room : ℕ) (both
   judge_refused why (Ok constant) is e = absurd is
 
   -- or passed in the network that it lets pass
-  module _ (passed : Judged) (same : passed.network ≡ net) (fits : Ok (outline_in passed) ≡ judged net held room) where
-    pub node_refused : (why : Refusal) (r : Result ℕ Refusal) → IsErrAnd r (λ refusal. refusal ≡ why) → why ≡ Illegal → node_good passed.network.vars passed.network.sizes node.fixed ≡ false → Refused r
+  module _ (passed : Judged) (same : passed.network.now ≡ net) (fits : Ok (outline_in passed) ≡ judged net held room) where
+    pub node_refused : (why : Refusal) (r : Result ℕ Refusal) → IsErrAnd r (λ refusal. refusal ≡ why) → why ≡ Illegal → node_good passed.network.now.vars passed.network.now.sizes node.fixed ≡ false → Refused r
     unfolding pass_leaves
     node_refused why (Err refusal) is e bad = rw (← both, ← fits, is ∙ e, rw same at bad)
     node_refused why (Ok constant) is e bad = absurd is
@@ -52,12 +52,12 @@ module _ (net : Network) (held work : List ℕ) (node : Node) (room : ℕ) (both
       site_roomy = let roomy = (judged-passed net held room (outline_in passed) fits).roomy in rw (here, same) (omega (arith, both, roomy))
 
       -- what the pass over the copied costs leaves
-      pub passed_there : site.node.now ≡ node.fixed → node_good passed.network.vars passed.network.sizes node.fixed ≡ true → (u v : List ℕ) (r : ℕ)
-          → u ≡ take passed.entries held ++ drop passed.entries work → costs_of r v ≡ (pass (net_at site) (lives site) (costs_of site.judged.now.network.constant u)).costs
+      pub passed_there : site.node.now ≡ node.fixed → node_good passed.network.now.vars passed.network.now.sizes node.fixed ≡ true → (u v : List ℕ) (r : ℕ)
+          → u ≡ take passed.entries held ++ drop passed.entries work → costs_of r v ≡ (pass (net_at site) (lives site) (costs_of site.judged.now.network.now.constant u)).costs
           → leaves (told (Ok r)) v ≡ pass_leaves net held work node
       unfolding pass_leaves
       passed_there there good u v r copied done =
-          let m = site.judged.now.network in
+          let m = site.judged.now.network.now in
           let start = site_copied site m.constant held work u (rw (here, same) (omega (arith, both, (judged-passed net held room (outline_in passed) fits).roomy))) (rw here copied) in
           let all : costs_of r v ≡ worked_below (entries (net_at site)) (pass (net_at site) (lives site) (costs_of m.constant held)).costs work =
           done ∙ rw start (pass_stays_below (net_at site) (lives site) work (scoped_sound (outline_of m) m.sizes m.scopes site.judged.now.ready.scoped) (costs_of m.constant held)) in

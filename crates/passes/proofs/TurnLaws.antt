@@ -66,10 +66,10 @@ module _ (n : Net) (live : ℕ → ℕ → Bool) where
 
 module _ (site : Site) where
   abbrev net : Network
-  net = site.judged.now.network
+  net = site.judged.now.network.now
 
   abbrev firsts : List ℕ
-  firsts = site.judged.now.firsts
+  firsts = site.firsts.now
 
   abbrev n : Net
   n = net_at site
@@ -97,12 +97,12 @@ module _ (site : Site) where
         value_carries n live f i a m constant constant t v alive (block_least n (fixing live i a) (net.vars + f) b m t holds e)
         (carries_some n live (Project f i a) m constant constant t v d
         (projects (outline_of net) net.sizes net.scopes site.node.now i li a la f (get_or firsts i 0 + a) m constant b t u v holds
-        (ap (λ (x : ℕ). x + a) (site.judged.now.first i li)) (rw eg at g) (rw et at h)))
+        (ap (λ (x : ℕ). x + a) (site.first i li)) (rw eg at g) (rw et at h)))
 
   -- a variable: nothing to raise, or a raise
   module _ (i : ℕ) (li : i < net.vars) (x : Span) (ex : x ≡ live_span net.sizes site.node.now i) (m : ℕ) (t : List ℕ) (e : m ≡ box_least (spanned x ∷ []) (get_or firsts i 0) net.top (cells t)) where
     pub variable_least : m ≡ least n live (cells t) i
-    variable_least = row-least (outline_of net) net.sizes net.scopes site.node.now i li x (get_or firsts i 0) m t ex (site.judged.now.first i li) e
+    variable_least = row-least (outline_of net) net.sizes net.scopes site.node.now i li x (get_or firsts i 0) m t ex (site.first i li) e
 
     pub variable_stays : m ≡ 0 → (constant : ℕ) → constant ≤ net.top → Carries (at_variable n live i) constant t (plus net.top constant m) t
     variable_stays z constant l =
@@ -114,7 +114,7 @@ module _ (site : Site) where
     variable_turns gives u d eg g constant =
         variable_carries n live i m constant (plus net.top constant m) t u variable_least
         (carries_some n live (Raise i) m constant (plus net.top constant m) t u d
-        (raises (outline_of net) net.sizes net.scopes site.node.now i li x (get_or firsts i 0) m constant t u ex (site.judged.now.first i li) (rw eg at g)))
+        (raises (outline_of net) net.sizes net.scopes site.node.now i li x (get_or firsts i 0) m constant t u ex (site.first i li) (rw eg at g)))
 
   -- a loop over a variable's live values
   module _ (f i : ℕ) (x : Span) (ex : x ≡ live_span net.sizes site.node.now i) where

@@ -35,7 +35,8 @@ fn pass_in(net: &Network, held: &[u64], work: &mut [u64], node: &Node) -> Result
     ensures err { IfErr result (λ refusal. record { answer = Err refusal; costs = zeros } ≡ pass_leaves net.now held.now work.old node.now) }
 {
     let judged = judge(net, held, held.len().min(work.len()))?;
-    let site = Site::new(&judged, &node.fixed)?;
+    let firsts = judged.firsts();
+    let site = Site::new(&judged, &firsts, &node.fixed)?;
     copy_in(work, held, judged.entries);
     Ok(pass_over(work, site))
 }

@@ -95,22 +95,22 @@ priced_ready net t o e =
     rw passed.outline (passed.network.ready, passed.roomy, refl)
 
 -- the places of a table that a plan touches
-module _ (j : Judged) (t choice : List ℕ) (whole : j.entries ≤ length t) (plan : IsPlan (stands j.network) (value_in choice)) where
-  sound : Sound (stands j.network)
-  sound = scoped_sound (outline_of j.network) j.network.sizes j.network.scopes j.ready.scoped
+module _ (j : Judged) (t choice : List ℕ) (whole : j.entries ≤ length t) (plan : IsPlan (stands j.network.now) (value_in choice)) where
+  sound : Sound (stands j.network.now)
+  sound = scoped_sound (outline_of j.network.now) j.network.now.sizes j.network.now.scopes j.ready.scoped
 
-  pub unary_place : (v start value : ℕ) → v < j.network.vars → start ≡ start_in (stands j.network) v → value ≡ get_or choice v 0
-      → (start + value ≡ touched (stands j.network) (value_in choice) v) × (start + value < length t) × (start + value < entries_most)
+  pub unary_place : (v start value : ℕ) → v < j.network.now.vars → start ≡ start_in (stands j.network.now) v → value ≡ get_or choice v 0
+      → (start + value ≡ touched (stands j.network.now) (value_in choice) v) × (start + value < length t) × (start + value < entries_most)
   unary_place v start value l e is =
-      let at = touched_unary (stands j.network) sound (value_in choice) v l in
-      let low = touched_below (stands j.network) sound (value_in choice) plan v (omega arith) in
+      let at = touched_unary (stands j.network.now) sound (value_in choice) v l in
+      let low = touched_below (stands j.network.now) sound (value_in choice) plan v (omega arith) in
       (omega (arith, at, e, is), omega (arith, at, e, is, low, whole, j.whole), omega (arith, at, e, is, low, j.ready.few))
 
-  pub function_place : (f start entry : ℕ) → f < j.network.functions → start ≡ get_or j.network.starts f 0 → entry ≡ entry_in (λ v. get_or j.network.sizes v 0) (value_in choice) (scope_in (in_row j.network.scopes f))
-      → (start + entry ≡ touched (stands j.network) (value_in choice) (j.network.vars + f)) × (start + entry < length t) × (start + entry < entries_most)
+  pub function_place : (f start entry : ℕ) → f < j.network.now.functions → start ≡ get_or j.network.now.starts f 0 → entry ≡ entry_in (λ v. get_or j.network.now.sizes v 0) (value_in choice) (scope_in (in_row j.network.now.scopes f))
+      → (start + entry ≡ touched (stands j.network.now) (value_in choice) (j.network.now.vars + f)) × (start + entry < length t) × (start + entry < entries_most)
   function_place f start entry l e is =
-      let at : start + entry ≡ touched (stands j.network) (value_in choice) (j.network.vars + f) = rw (scope-function j.network.vars j.network.scopes f, e, is, j.ready.placed f l) in
-      let low = touched_below (stands j.network) sound (value_in choice) plan (j.network.vars + f) (omega arith) in
+      let at : start + entry ≡ touched (stands j.network.now) (value_in choice) (j.network.now.vars + f) = rw (scope-function j.network.now.vars j.network.now.scopes f, e, is, j.ready.placed f l) in
+      let low = touched_below (stands j.network.now) sound (value_in choice) plan (j.network.now.vars + f) (omega arith) in
       (at, omega (arith, at, low, whole, j.whole), omega (arith, at, low, j.ready.few))
 
 -- an entry, one variable more

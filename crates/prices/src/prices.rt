@@ -34,8 +34,8 @@ pub fn refused(answer: Answer) -> Priced
 // The price answer of a plan whose values are in range: the one price in the code, which the desk and every search ask too.
 pub fn price_of(judged: &Judged, choice: &[u8; VARS], table: &[u64]) -> Priced
     requires whole { judged.now.entries ≤ length table.now }
-    requires plan { IsPlan (stands judged.now.network) (value_in choice.now) }
-    ensures { result ≡ plan_price (stands judged.now.network) (costs_of judged.now.network.constant table.now) (value_in choice.now) }
+    requires plan { IsPlan (stands judged.now.network.now) (value_in choice.now) }
+    ensures { result ≡ plan_price (stands judged.now.network.now) (costs_of judged.now.network.now.constant table.now) (value_in choice.now) }
 {
     let constant = begun(judged.network.top, judged.network.constant);
     let unary = with_unary(judged, choice, table, constant);
@@ -50,11 +50,11 @@ pub fn price_of(judged: &Judged, choice: &[u8; VARS], table: &[u64]) -> Priced
 // ⊕ the unary costs by variable.
 fn with_unary(judged: &Judged, choice: &[u8; VARS], table: &[u64], before: Sum) -> Sum
     requires whole { judged.now.entries ≤ length table.now }
-    requires plan { IsPlan (stands judged.now.network) (value_in choice.now) }
-    requires before { before ≡ sum_in judged.now.network table.now choice.now 0 }
-    ensures { result ≡ sum_in judged.now.network table.now choice.now judged.now.network.vars }
+    requires plan { IsPlan (stands judged.now.network.now) (value_in choice.now) }
+    requires before { before ≡ sum_in judged.now.network.now table.now choice.now 0 }
+    ensures { result ≡ sum_in judged.now.network.now table.now choice.now judged.now.network.now.vars }
 {
-    let net = &judged.network;
+    let net = judged.network;
     let mut sum = before;
     let mut start = 0;
     for v in 0..net.vars {
@@ -68,11 +68,11 @@ fn with_unary(judged: &Judged, choice: &[u8; VARS], table: &[u64], before: Sum) 
 // ⊕ the function costs by number.
 fn with_functions(judged: &Judged, choice: &[u8; VARS], table: &[u64], before: Sum) -> Sum
     requires whole { judged.now.entries ≤ length table.now }
-    requires plan { IsPlan (stands judged.now.network) (value_in choice.now) }
-    requires before { before ≡ sum_in judged.now.network table.now choice.now judged.now.network.vars }
-    ensures { result ≡ sum_in judged.now.network table.now choice.now (judged.now.network.vars + judged.now.network.functions) }
+    requires plan { IsPlan (stands judged.now.network.now) (value_in choice.now) }
+    requires before { before ≡ sum_in judged.now.network.now table.now choice.now judged.now.network.now.vars }
+    ensures { result ≡ sum_in judged.now.network.now table.now choice.now (judged.now.network.now.vars + judged.now.network.now.functions) }
 {
-    let net = &judged.network;
+    let net = judged.network;
     let mut sum = before;
     for f in 0..net.functions {
         let at = net.start(f) + entry_of(net, choice, f);

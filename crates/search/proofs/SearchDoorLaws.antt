@@ -1,9 +1,9 @@
 -- The public call, as its code goes. Assumes nothing.
-use Rattle.std.proofs.Common.{Ok, Err, ℕ, ◌-◌, ◌≤◌, ◌<◌, min, ◌≡◌, refl, sym, ap, ◌∙◌, subst, Bool, false, List, arith, length, replicate}
+use Rattle.std.proofs.Common.{true, Ok, Err, ℕ, ◌-◌, ◌≤◌, ◌<◌, min, ◌≡◌, refl, sym, ap, ◌∙◌, subst, Bool, false, List, arith, length, replicate}
 use Rattle.answers.specs.Answers.{Done}
 use Rattle.costs.specs.declared.networks.Network.{Network}
 use Rattle.judging.specs.declared.judged.Judged.{Judged}
-use Rattle.judging.specs.Ties.Outlined.{outline_in}
+use Rattle.judging.specs.Outlined.{outline_in}
 use Rattle.costs.specs.Limits.{vars_most}
 use Rattle.costs.specs.Net.{IsPlan, costs_of}
 use Rattle.costs.specs.Networks.{outline_of, stands}
@@ -35,13 +35,13 @@ fixes_none sizes = record { some = λ v l. absurd (omega arith); sized = λ v l.
 -- a judged network's parts, and its search
 module _ (judged : Judged) (held : List ℕ) where
   abbrev net : Network
-  net = judged.network
+  net = judged.network.now
 
-  pub enters_root : (room notes : ℕ) → judged.entries ≤ room → notes_most ≤ notes → Enters judged root_bytes 0 room notes vars_most
-  enters_root room notes roomy noted = record {
+  pub enters_root : (asked : Bool) (room notes plan : ℕ) → judged.entries ≤ room → (asked ≡ true → notes_most ≤ notes) → plan ≡ vars_most → Enters judged asked root_bytes 0 room notes plan
+  enters_root asked room notes plan roomy noted plan_long = record {
     roomy = roomy;
     noted = noted;
-    plan_long = refl;
+    plan_long = plan_long;
     node_long = refl;
     within = omega arith;
     fixes = fixes_none net.sizes;
@@ -80,16 +80,16 @@ module _ (net : Network) (held : List ℕ) (work out : ℕ) (asked : Bool) (limi
       → ◌≡◌ {A = SearchLeft} (record { result = r; out = u }) (search_leaves net held work out asked limit)
   search_refused why e r u is zeros = leaves_refused net held work out asked (search_of net held limit) why r u (rw (← shorter) e) is zeros
 
-  module _ (passed : Judged) (same : passed.network ≡ net) (e : Ok (outline_in passed) ≡ judged net held room) where
+  module _ (passed : Judged) (same : passed.network.now ≡ net) (e : Ok (outline_in passed) ≡ judged net held room) where
     fits : Ok (outline_in passed) ≡ judged net held (min (length held) work)
     fits = rw (← shorter) e
 
-    pub passed_roomy : (1 ≤ passed.network.top) × (passed.entries ≤ work)
+    pub passed_roomy : (1 ≤ passed.network.now.top) × (passed.entries ≤ work)
     passed_roomy = let roomy = judged_room net held room passed e in (rw same (judged-passed net held room (outline_in passed) e).network.top_some, omega (arith, roomy, shorter))
 
     pub held_whole : passed.entries ≤ length held
     held_whole = let roomy = judged_room net held room passed e in omega (arith, roomy, shorter)
 
-    pub passed_leaves : (l : SearchLeft) → l ≡ ended_left (stands passed.network) asked out (searched_in passed.network held limit) → l ≡ search_leaves net held work out asked limit
+    pub passed_leaves : (l : SearchLeft) → l ≡ ended_left (stands passed.network.now) asked out (searched_in passed.network.now held limit) → l ≡ search_leaves net held work out asked limit
     unfolding search_of searched_in
     passed_leaves l h = leaves-told net held work out asked (search_of net held limit) (outline_in passed) l out fits refl (rw same at h)

@@ -32,10 +32,10 @@ any_among i (v ∷ vs) = rw (same_by (by_eqb v i) (by_eqb i v) sym sym, any_amon
 
 module _ (site : Site) where
   abbrev net : Network
-  net = site.judged.now.network
+  net = site.judged.now.network.now
 
   abbrev firsts : List ℕ
-  firsts = site.judged.now.firsts
+  firsts = site.firsts.now
 
   abbrev n : Net
   n = net_at site
@@ -69,7 +69,7 @@ module _ (site : Site) where
         asked_in room h = unary_in room i a h asked.variable asked.value
 
         at_start : get_or firsts i 0 + a ≡ start n i + a
-        at_start = ap (λ (x : ℕ). x + a) (site.judged.now.first i asked.variable)
+        at_start = ap (λ (x : ℕ). x + a) (site.first i asked.variable)
 
         module _ (b : Block) (holds : Holds n (fixing live i a) (net.vars + f) b) where
           module _ (has : ℕ) (e : has ≡ box_least (sides b) b.at net.top (cells t)) where
@@ -113,7 +113,7 @@ module _ (site : Site) where
         raise_legal : is_legal n live (costs_of constant t) (Raise i m) ≡ ((between 1 net.top m && ltb i net.vars) && leb m has)
         raise_legal =
             legal_raise n live (costs_of constant t) i m _ has refl
-            (row-least (outline_of net) net.sizes net.scopes site.node.now i li x (get_or firsts i 0) has t ex (site.judged.now.first i li) e)
+            (row-least (outline_of net) net.sizes net.scopes site.node.now i li x (get_or firsts i 0) has t ex (site.first i li) e)
 
         pub raise_less : has < m → leaves (told (Err Illegal)) t ≡ tried n live (Raise i m) constant t
         raise_less l = tried_less n live (Raise i m) constant m t _ has raise_legal l
@@ -124,4 +124,4 @@ module _ (site : Site) where
         raise_done may l gives u after eg g ea =
             rw ea
             (tried_enough n live (Raise i m) constant m t _ has raise_legal (plus net.top constant m) u (sym may) l
-            (raises (outline_of net) net.sizes net.scopes site.node.now i li x (get_or firsts i 0) m constant t u ex (site.judged.now.first i li) (rw eg at g)))
+            (raises (outline_of net) net.sizes net.scopes site.node.now i li x (get_or firsts i 0) m constant t u ex (site.first i li) (rw eg at g)))

@@ -28,6 +28,7 @@ fn shift_in(net: &Network, table: &mut [u64], node: &Node, one: Move) -> Result<
     ensures { leaves (told result) table.new ≡ shift_leaves net.now table.old node.now one }
 {
     let judged = judge(net, table, table.len())?;
-    let site = Site::new(&judged, &node.fixed)?;
+    let firsts = judged.firsts();
+    let site = Site::new(&judged, &firsts, &node.fixed)?;
     try_shift(table, site, net.constant, one)
 }

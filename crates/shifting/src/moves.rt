@@ -60,7 +60,7 @@ fn project(
     if least_block(table, top, block) < amount {
         return Err(Refusal::Illegal);
     }
-    let at = site.judged.firsts[i] + a;
+    let at = site.firsts[i] + a;
     change_block(table, Change::gives(top, amount), block);
     change_one(table, Change::takes(top, amount), at);
     Ok(constant)
@@ -83,7 +83,7 @@ fn extend(
         return Err(Refusal::Illegal);
     }
     let top = site.judged.network.top;
-    let at = site.judged.firsts[i] + a;
+    let at = site.firsts[i] + a;
     if table[at] < amount {
         return Err(Refusal::Illegal);
     }
@@ -103,12 +103,12 @@ fn raise(
     requires { entries (net_at site) ≤ length table.old }
     ensures { leaves (told result) table.new ≡ tried (net_at site.entry) (lives site.entry) (Raise i amount) constant table.old }
 {
-    let net = &site.judged.network;
+    let net = site.judged.network;
     if !is_amount(net.top, amount) || net.vars <= i {
         return Err(Refusal::Illegal);
     }
     let x = site.span(i);
-    let at = site.judged.firsts[i];
+    let at = site.firsts[i];
     if least_row(table, net.top, at, x) < amount {
         return Err(Refusal::Illegal);
     }
@@ -118,9 +118,9 @@ fn raise(
 
 // An amount, function f, variable i in its scope, and a live value of it.
 fn may_exchange(site: Site, f: usize, i: usize, a: usize, amount: u64) -> bool
-    ensures { result ≡ (between 1 site.entry.judged.now.network.top amount && joins (net_at site.entry) (lives site.entry) f i a) }
+    ensures { result ≡ (between 1 site.entry.judged.now.network.now.top amount && joins (net_at site.entry) (lives site.entry) f i a) }
 {
-    let net = &site.judged.network;
+    let net = site.judged.network;
     if !is_amount(net.top, amount) || net.functions <= f || net.vars <= i {
         return false;
     }

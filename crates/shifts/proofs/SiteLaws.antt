@@ -8,5 +8,5 @@ use Rattle.shifts.specs.Ties.Sites.{net_at}
 
 -- what its type keeps, beside room in the table
 pub site_laid : (site : Site) (room : ℕ) → entries (net_at site) ≤ room
-    → Laid (outline_of site.judged.now.network) site.judged.now.network.sizes site.judged.now.network.scopes site.judged.now.network.starts site.judged.now.firsts site.node.now room
-site_laid site room roomy = record { ready = site.judged.now.ready; first = site.judged.now.first; node = site.legal; roomy = roomy }
+    → Laid (outline_of site.judged.now.network.now) site.judged.now.network.now.sizes site.judged.now.network.now.scopes site.judged.now.network.now.starts site.firsts.now site.node.now room
+site_laid site room roomy = record { ready = site.judged.now.ready; first = site.first; node = site.legal; roomy = roomy }

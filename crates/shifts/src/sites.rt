@@ -2,6 +2,7 @@
 ghost use Rattle.std.specs.Prelude.{ℕ, ◌+◌, ◌≤◌, ◌<◌, ◌≡◌, true, false, IfOk, IfErr, get_or};
 ghost use Rattle.answers.specs.declared.Refusal.TheVariants.{Illegal};
 ghost use Rattle.costs.specs.Limits.{vars_most, size_most};
+ghost use Rattle.costs.specs.Net.{start};
 ghost use Rattle.costs.specs.Networks.{stands};
 ghost use Rattle.shifts.specs.Nodes.{live_in, fixing, node_good};
 ghost use Rattle.shifts.specs.Ties.Parts.{live_span, child_span, Holds};
@@ -15,28 +16,40 @@ use judging::judged::Judged;
 // It holds lent parts, and nobody compares two.
 #[derive(Clone, Copy)]
 pub struct Site<'a> {
-    pub judged: &'a Judged,
+    pub judged: &'a Judged<'a>,
+    // where each variable's unary stretch begins
+    pub firsts: &'a [usize; VARS],
     // 0 where a variable is free, v + 1 where it is fixed to v
     pub node: &'a [u8; VARS],
-    pub ghost legal: { (v : ℕ) → v < judged.now.network.vars → get_or node.now v 0 ≤ get_or judged.now.network.sizes v 0 },
+    pub ghost first: { (v : ℕ) → v < judged.now.network.now.vars → get_or firsts.now v 0 ≡ start (stands judged.now.network.now) v },
+    pub ghost legal: { (v : ℕ) → v < judged.now.network.now.vars → get_or node.now v 0 ≤ get_or judged.now.network.now.sizes v 0 },
 }
 
 impl<'a> Site<'a> {
     // The site of a node, where it is legal.
-    pub fn new(judged: &'a Judged, node: &'a [u8; VARS]) -> Result<Site<'a>, Refusal>
-        ensures ok { IfOk result (λ site. (site.judged.now ≡ judged.now) × (site.node.now ≡ node.now) × (node_good judged.now.network.vars judged.now.network.sizes node.now ≡ true)) }
-        ensures err { IfErr result (λ refusal. (refusal ≡ Illegal) × (node_good judged.now.network.vars judged.now.network.sizes node.now ≡ false)) }
+    pub fn new(
+        judged: &'a Judged<'a>,
+        firsts: &'a [usize; VARS],
+        node: &'a [u8; VARS],
+    ) -> Result<Site<'a>, Refusal>
+        requires { (v : ℕ) → v < judged.now.network.now.vars → get_or firsts.now v 0 ≡ start (stands judged.now.network.now) v }
+        ensures ok { IfOk result (λ site. (site.judged.now ≡ judged.now) × (site.node.now ≡ node.now) × (node_good judged.now.network.now.vars judged.now.network.now.sizes node.now ≡ true)) }
+        ensures err { IfErr result (λ refusal. (refusal ≡ Illegal) × (node_good judged.now.network.now.vars judged.now.network.now.sizes node.now ≡ false)) }
     {
-        if !node_good(&judged.network, node) {
+        if !node_good(judged.network, node) {
             return Err(Refusal::Illegal);
         }
-        Ok(Site { judged, node })
+        Ok(Site {
+            judged,
+            firsts,
+            node,
+        })
     }
 
     // The live values of variable v.
     pub fn span(self, v: usize) -> Span
         requires { v < vars_most }
-        ensures { result ≡ live_span self.entry.judged.now.network.sizes self.entry.node.now v }
+        ensures { result ≡ live_span self.entry.judged.now.network.now.sizes self.entry.node.now v }
     {
         live_span(&self.judged.network.sizes, self.node, v)
     }
@@ -44,7 +57,7 @@ impl<'a> Site<'a> {
     // The same at the node below this one that fixes i to a.
     fn child_span(self, i: usize, a: usize, v: usize) -> Span
         requires { (v < vars_most) × (a < size_most) }
-        ensures { result ≡ child_span self.entry.judged.now.network.sizes self.entry.node.now i a v }
+        ensures { result ≡ child_span self.entry.judged.now.network.now.sizes self.entry.node.now i a v }
     {
         if v == i {
             return Span {
@@ -58,10 +71,10 @@ impl<'a> Site<'a> {
 
     // The tuples of function f that are live with value a at variable i.
     pub fn block(self, f: usize, i: usize, a: usize) -> Block
-        requires { (f < self.judged.now.network.functions) × (i < self.judged.now.network.vars) × (a < get_or self.judged.now.network.sizes i 0) }
-        ensures { Holds (stands self.entry.judged.now.network) (fixing (live_in self.entry.judged.now.network.sizes self.entry.node.now) i a) (self.entry.judged.now.network.vars + f) result }
+        requires { (f < self.judged.now.network.now.functions) × (i < self.judged.now.network.now.vars) × (a < get_or self.judged.now.network.now.sizes i 0) }
+        ensures { Holds (stands self.entry.judged.now.network.now) (fixing (live_in self.entry.judged.now.network.now.sizes self.entry.node.now) i a) (self.entry.judged.now.network.now.vars + f) result }
     {
-        let net = &self.judged.network;
+        let net = self.judged.network;
         let at = net.start(f);
         let scope = net.scope(f);
         let first = self.child_span(i, a, usize::from(scope[0]));

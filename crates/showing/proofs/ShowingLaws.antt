@@ -2,7 +2,7 @@
 use Rattle.std.proofs.Common.{ℕ, ◌+◌, ◌-◌, ◌≤◌, ◌<◌, ◌≡◌, refl, sym, Bool, true, false, cond, ◌&&◌, List, [], arith, leb, length, get_or, take, drop, Result, Ok, Err, is_ok}
 use Rattle.costs.specs.declared.networks.Network.{Network}
 use Rattle.judging.specs.declared.judged.Judged.{Judged}
-use Rattle.judging.specs.Ties.Outlined.{outlined, outline_in}
+use Rattle.judging.specs.Outlined.{outlined, outline_in}
 use Rattle.judging.specs.declared.Unfit.{Unfit}
 use Rattle.judging.specs.declared.Unfit.TheVariants.{NoNetwork, TooShort}
 use Rattle.costs.specs.Limits.{functions_most, entries_most}

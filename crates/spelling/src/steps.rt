@@ -15,7 +15,6 @@ use crate::claims::Claimed;
 use crate::faults::Kept;
 use crate::trees::Place;
 use costs::networks::Network;
-use judging::judged::Judged;
 use records::layout::STEP_WORDS;
 use records::steps::Step;
 use records::words::word_at;
@@ -35,7 +34,7 @@ pub fn steps_fault(
     requires whole { claimed.judged.now.entries ≤ length work.old }
     requires by_index { (j : ℕ) → j < claimed.judged.now.entries → get_or work.old j 0 ≡ get_or claimed.held.now j 0 }
     requires word_bytes_in_bounds { (from + step_words * steps) * word_bytes ≤ length bytes.now }
-    ensures { result ≡ steps_fault (claim_in claimed.entry) (step_at (word_at bytes.now)) steps from (root (stands claimed.entry.judged.now.network) ∷ []) none }
+    ensures { result ≡ steps_fault (claim_in claimed.entry) (step_at (word_at bytes.now)) steps from (root (stands claimed.entry.judged.now.network.now) ∷ []) none }
 {
     let mut place = Place::root(claimed.judged.network.constant);
     for step in 0..steps {
@@ -70,12 +69,12 @@ fn step_at(bytes: &[u8], w: usize) -> Option<Step>
 // The place after a step, where the rules allow it.
 fn take_step(work: &mut [u64], claimed: Claimed, place: Place, step: Step) -> Option<Place>
     requires whole { claimed.judged.now.entries ≤ length work.old }
-    requires upright { Upright claimed.judged.now.network.vars (sizes_of claimed.judged.now.network.sizes) place × (place.over ≡ false) }
+    requires upright { Upright claimed.judged.now.network.now.vars (sizes_of claimed.judged.now.network.now.sizes) place × (place.over ≡ false) }
     ensures { (costs : NodeCosts) → Follows (claim_in claimed.entry) costs place work.old → Took (claim_in claimed.entry) costs place step result work.new }
 {
     match step {
-        Step::Branch(i) => branch_step(place, &claimed.judged.network, i),
-        Step::Shift(one) => shift_step(work, claimed.judged, place, one),
+        Step::Branch(i) => branch_step(place, claimed.judged.network, i),
+        Step::Shift(one) => shift_step(work, claimed, place, one),
         Step::Close => close_step(work, claimed, place),
     }
 }
@@ -91,13 +90,14 @@ fn branch_step(place: Place, net: &Network, i: usize) -> Option<Place>
     Some(place.branched(net, i))
 }
 
-fn shift_step(work: &mut [u64], judged: &Judged, place: Place, one: Move) -> Option<Place>
-    requires whole { judged.now.entries ≤ length work.old }
-    requires upright { Upright judged.now.network.vars (sizes_of judged.now.network.sizes) place }
-    ensures { Shifted (stands judged.now.network) (live_in judged.now.network.sizes place.fixed) place one work.old result work.new }
+fn shift_step(work: &mut [u64], claimed: Claimed, place: Place, one: Move) -> Option<Place>
+    requires whole { claimed.judged.now.entries ≤ length work.old }
+    requires upright { Upright claimed.judged.now.network.now.vars (sizes_of claimed.judged.now.network.now.sizes) place }
+    ensures { Shifted (stands claimed.entry.judged.now.network.now) (live_in claimed.entry.judged.now.network.now.sizes place.fixed) place one work.old result work.new }
 {
     let site = Site {
-        judged,
+        judged: claimed.judged,
+        firsts: claimed.firsts,
         node: &place.fixed,
     };
     let constant = try_shift(work, site, place.constant, one).ok()?;
@@ -110,13 +110,13 @@ fn shift_step(work: &mut [u64], judged: &Judged, place: Place, one: Move) -> Opt
 
 fn close_step(work: &mut [u64], claimed: Claimed, place: Place) -> Option<Place>
     requires whole { claimed.judged.now.entries ≤ length work.old }
-    requires upright { Upright claimed.judged.now.network.vars (sizes_of claimed.judged.now.network.sizes) place }
+    requires upright { Upright claimed.judged.now.network.now.vars (sizes_of claimed.judged.now.network.now.sizes) place }
     ensures allowed { is_some result ≡ leb claimed.entry.cost place.constant }
-    ensures leads { IfSome result (λ next. LeadsTo claimed.entry.judged.now.network.vars (sizes_of claimed.entry.judged.now.network.sizes) (pending_at (sizes_of claimed.entry.judged.now.network.sizes) place) false claimed.entry.judged.now.network.constant next × ((j : ℕ) → j < claimed.entry.judged.now.entries → get_or work.new j 0 ≡ get_or claimed.entry.held.now j 0)) }
+    ensures leads { IfSome result (λ next. LeadsTo claimed.entry.judged.now.network.now.vars (sizes_of claimed.entry.judged.now.network.now.sizes) (pending_at (sizes_of claimed.entry.judged.now.network.now.sizes) place) false claimed.entry.judged.now.network.now.constant next × ((j : ℕ) → j < claimed.entry.judged.now.entries → get_or work.new j 0 ≡ get_or claimed.entry.held.now j 0)) }
 {
     if place.constant < claimed.cost {
         return None;
     }
     copy_in(work, claimed.held, claimed.judged.entries);
-    Some(place.turned_back(&claimed.judged.network))
+    Some(place.turned_back(claimed.judged.network))
 }

@@ -18,7 +18,7 @@ pub const RECORD: usize = 400_000;
 // "header line 1,024 bytes", and its end.
 const LINE: usize = 1_025;
 // A call has at most so many numbers: those of a shift and of its node.
-const NUMBERS: usize = 6 + VARS;
+pub const NUMBERS: usize = 6 + VARS;
 // A number has at most this many digits.
 const DIGITS: usize = 20;
 
@@ -32,7 +32,7 @@ pub enum FrameError {
 }
 
 // What a frame asks for. Nobody compares two, here and of what it holds.
-#[derive(Drop)]
+#[derive(Clone, Copy)]
 pub enum Call {
     Read { length: usize },
     Lend(Lend),
@@ -40,7 +40,7 @@ pub enum Call {
 }
 
 // What is asked of a network.
-#[derive(Drop)]
+#[derive(Clone, Copy)]
 pub enum NetworkCall {
     Price(Plan),
     Shift {
@@ -64,7 +64,7 @@ pub enum NetworkCall {
 }
 
 // The length of the text, and the call. Nobody compares two.
-#[derive(Drop)]
+#[derive(Clone, Copy)]
 pub struct Header {
     pub text: usize,
     pub call: Call,

@@ -25,8 +25,8 @@ pub fn visit(
     depth: usize,
     from: Progress,
 ) -> Progress
-    requires { Enters task.judged.now node.old depth (length work.old) (length notes.old) (length plan.old) }
-    ensures { (node.new ≡ node.old) × (length plan.new ≡ vars_most) × Visits task.entry.judged.now.network task.entry.held.now task.entry.asked task.entry.budget node.old depth from plan.old out.old result plan.new out.new }
+    requires { Enters task.judged.now task.asked node.old depth (length work.old) (length notes.old) (length plan.old) }
+    ensures { (node.new ≡ node.old) × (length plan.new ≡ vars_most) × Visits task.entry.judged.now.network.now task.entry.held.now task.entry.asked task.entry.budget node.old depth from plan.old out.old result plan.new out.new }
 {
     if from.over {
         return from;
@@ -68,12 +68,13 @@ fn look(
     depth: usize,
     from: Progress,
 ) -> Seen
-    requires enters { Enters task.judged.now node.now depth (length work.old) (length notes.old) (length plan.old) }
+    requires enters { Enters task.judged.now task.asked node.now depth (length work.old) (length notes.old) (length plan.old) }
     requires nodes_lt_nodes_most { from.nodes < nodes_most }
-    ensures { (length plan.new ≡ vars_most) × Looks task.entry.judged.now.network task.entry.held.now task.entry.asked node.now depth from plan.old out.old result plan.new out.new }
+    ensures { (length plan.new ≡ vars_most) × Looks task.entry.judged.now.network.now task.entry.held.now task.entry.asked node.now depth from plan.old out.old result plan.new out.new }
 {
     let site = Site {
         judged: task.judged,
+        firsts: task.firsts,
         node,
     };
     let bound = bound_at(work, notes, task.held, site, task.asked);

@@ -1,5 +1,5 @@
 -- Ties: the pass's steps on a lent table, with their shifts noted.
-use Rattle.std.specs.Prelude.{ℕ, zero, suc, ◌+◌, ◌*◌, ◌≤◌, ◌≡◌, Bool, true, List, [], ◌∷◌, take}
+use Rattle.std.specs.Prelude.{ℕ, zero, suc, ◌+◌, ◌*◌, ◌≤◌, ◌≡◌, Bool, true, List, [], ◌∷◌, length, take}
 use Rattle.costs.specs.Limits.{vars_most, size_most, arity_most, functions_most}
 use Rattle.costs.specs.Net.{costs_of}
 use Rattle.shifts.specs.declared.moves.Move.{Move}
@@ -36,10 +36,11 @@ LeadsOn step constant t notes count constant' t' notes' count' = (w : Work) → 
 
 -- the pass at a node, from held costs
 abbrev pub pass_at : Site → List ℕ → Work
-pass_at site held = pass (net_at site) (lives site) (costs_of site.judged.now.network.constant held)
+pass_at site held = pass (net_at site) (lives site) (costs_of site.judged.now.network.now.constant held)
 
 -- what the code tells of a pass: its constant, and where a record is asked for its shifts
 pub record TellsPass (asked : Bool) (w : Work) (notes : List Move) (r : Noted) : Type 0 where
   pub few : r.count ≤ notes_most
+  pub there : r.count ≤ length notes
   pub constant : r.constant ≡ w.costs.constant
   pub shifts : asked ≡ true → take r.count notes ≡ w.shifts

@@ -1,7 +1,6 @@
 use Rattle.std.proofs.Common.{arith, sym, ◌∙◌, rules}
 use Rattle.costs.proofs.TestLaws.{so, not_so}
-use Rattle.costs.specs.Networks.{outline_of}
-use Rattle.judging.proofs.JudgeLaws.{by_ranges, by_tests, by_network, scoped_by, stretched_end, stretched_broken, judged_not, judged_short, judged_fit, tests_passed, start_first}
+use Rattle.judging.proofs.JudgeLaws.{by_ranges, by_tests, by_network, scoped_by, stretched_end, stretched_broken, judged_not, judged_short, judged_fit, tests_passed}
 use Rattle.judging.proofs.judge.Goals.{then-not-ranges_good-via-then-not-ranges_good, then-not-ranges_good-via-else-not-ranges_good+then-not-sizes_good, then-not-ranges_good-via-else-not-ranges_good+else-not-sizes_good+then-not-scopes_good, then-many-gt-ENTRIES-via-then-many-gt-ENTRIES, then-many-gt-ENTRIES-via-else-many-gt-ENTRIES+then-not-costs_good}
 use Rattle.judging.proofs.judge.Goals as goal
 
@@ -43,15 +42,9 @@ pub invariant_of-result : goal.invariant_of-result
 invariant_of-result c = let net = c.args.net.now in
     let e = stretched_end net.vars net.functions net.sizes net.scopes net.starts c.in-Some.many (sym c.in-Some.is ∙ c.stretches.ensures) in
     let passed = tests_passed net c.args.table.now c.in-Some.many (so (sym c.ranges_good.ensures ∙ c.if-not-ranges_good.false)) (so (sym c.sizes_good.ensures ∙ c.if-not-sizes_good.false)) (so (sym c.scopes_good.ensures ∙ c.if-not-scopes_good.false)) e.0 e.1 (search rules) (so (sym c.costs_good.ensures ∙ c.if-not-costs_good.false)) in
-    let ready = ((by_network net c.args.table.now).says ((by_tests net c.args.table.now).finds passed)).ready in
-    record { ready = ready; first = λ v l. c.unary_starts.ensures v l ∙ sym (start_first (outline_of net) net.sizes net.scopes ready.scoped v l); whole = e.1 }
+    record { ready = ((by_network net c.args.table.now).says ((by_tests net c.args.table.now).finds passed)).ready; whole = e.1 }
 
 pub returns-clause-value : goal.returns-clause-value
 returns-clause-value c = let net = c.args.net.now in
     let e = stretched_end net.vars net.functions net.sizes net.scopes net.starts c.in-Some.many (sym c.in-Some.is ∙ c.stretches.ensures) in
     judged_fit _ _ _ c.in-Some.many (tests_passed net c.args.table.now c.in-Some.many (so (sym c.ranges_good.ensures ∙ c.if-not-ranges_good.false)) (so (sym c.sizes_good.ensures ∙ c.if-not-sizes_good.false)) (so (sym c.scopes_good.ensures ∙ c.if-not-scopes_good.false)) e.0 e.1 (search rules) (so (sym c.costs_good.ensures ∙ c.if-not-costs_good.false))) e.1 (search rules)
-
-pub unary_starts-requires : goal.unary_starts-requires
-unary_starts-requires c = let net = c.args.net.now in
-    let scoped = scoped_by net.top net.constant net.vars net.functions net.sizes net.scopes (so (sym c.ranges_good.ensures ∙ c.if-not-ranges_good.false)) (so (sym c.sizes_good.ensures ∙ c.if-not-sizes_good.false)) (so (sym c.scopes_good.ensures ∙ c.if-not-scopes_good.false)) in
-    record { few = scoped.vars_few; small = scoped.small }

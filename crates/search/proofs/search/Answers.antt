@@ -25,4 +25,4 @@ returns-in-Err c = let s = c.args in (
 pub invariant_of-search_judged : goal.invariant_of-search_judged
 invariant_of-search_judged c = let s = c.args in
     let passed = c.in-Ok in
-    record { whole = held_whole s.net s.held.now (length s.work.now) (length s.out.now) s.asked s.budget _ c.min.ensures passed.judged passed.ensures.network passed.ensures.value }
+    record { first = c.firsts.ensures; whole = held_whole s.net s.held.now (length s.work.now) (length s.out.now) s.asked s.budget _ c.min.ensures passed.judged passed.ensures.network passed.ensures.value }

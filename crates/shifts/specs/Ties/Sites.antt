@@ -6,7 +6,7 @@ use Rattle.shifts.specs.Nodes.{live_in}
 use Rattle.shifts.specs.declared.sites.Site.{Site}
 
 abbrev pub net_at : Site → Net
-net_at site = stands site.judged.now.network
+net_at site = stands site.judged.now.network.now
 
 abbrev pub lives : Site → ℕ → ℕ → Bool
-lives site = live_in site.judged.now.network.sizes site.node.now
+lives site = live_in site.judged.now.network.now.sizes site.node.now

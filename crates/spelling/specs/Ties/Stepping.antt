@@ -13,7 +13,7 @@ use Rattle.spelling.specs.Ties.Standing.{Upright, node_at, pending_at, nodes_at}
 
 -- what it claims, as the rules have it
 abbrev pub claim_in : Claimed → Claim
-claim_in claimed = claim_of (stands claimed.judged.now.network) (costs_of claimed.judged.now.network.constant claimed.held.now) claimed.cost
+claim_in claimed = claim_of (stands claimed.judged.now.network.now) (costs_of claimed.judged.now.network.now.constant claimed.held.now) claimed.cost
 
 -- the costs o that the rules have at the node are those of the place and the working table
 pub record Follows (r : Claim) (o : NodeCosts) (p : Place) (t : List ℕ) : Type 0 where

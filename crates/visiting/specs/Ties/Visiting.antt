@@ -26,13 +26,13 @@ pub record Fixes (node sizes : List ℕ) (k : ℕ) : Type 0 where
   pub free : (v : ℕ) → k ≤ v → get_or node v 0 ≡ 0
 
 -- what the code may count on at a node that fixes the variables below `depth`: room in what is lent
-pub record Enters (judged : Judged) (node : List ℕ) (depth room notes plan : ℕ) : Type 0 where
+pub record Enters (judged : Judged) (asked : Bool) (node : List ℕ) (depth room notes plan : ℕ) : Type 0 where
   pub roomy : judged.entries ≤ room
-  pub noted : notes_most ≤ notes
+  pub noted : asked ≡ true → notes_most ≤ notes
   pub plan_long : plan ≡ vars_most
   pub node_long : length node ≡ vars_most
-  pub within : depth ≤ judged.network.vars
-  pub fixes : Fixes node judged.network.sizes depth
+  pub within : depth ≤ judged.network.now.vars
+  pub fixes : Fixes node judged.network.now.sizes depth
 
 -- the look at the node that the bytes tell
 abbrev pub look_at : Net → Costs → List ℕ → ℕ → State → Look

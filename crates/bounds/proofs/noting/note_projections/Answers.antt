@@ -17,5 +17,5 @@ loop-f-preserved c = let s = c.args in
 pub returns : goal.returns
 returns c = let s = c.args in
     let k = c.loop-f in
-    let e : k.f ≡ s.site.judged.now.network.functions = omega (arith, k.auto.f-end) in
+    let e : k.f ≡ s.site.judged.now.network.now.functions = omega (arith, k.auto.f-end) in
     (rw (← e) k.invariant.0, projections_all s.site k.count s.table.now k.table s.notes.now k.notes (rw e at k.invariant.1))

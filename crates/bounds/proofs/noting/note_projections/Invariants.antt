@@ -8,4 +8,4 @@ use Rattle.bounds.proofs.noting.note_projections.Given as goal
 abbrev pub invariant-loop-f : goal.invariant-loop-f
 invariant-loop-f l =
     (l.count ≤ l.f * scope_notes)
-    × Leads (each_to (λ x. at_scope (net_at l.site) (lives l.site) x ((net_at l.site).scope (l.site.judged.now.network.vars + x))) l.f) l.initial.table l.initial.notes 0 l.table l.notes l.count
+    × Leads (each_to (λ x. at_scope (net_at l.site) (lives l.site) x ((net_at l.site).scope (l.site.judged.now.network.now.vars + x))) l.f) l.initial.table l.initial.notes 0 l.table l.notes l.count

@@ -8,5 +8,5 @@ use Rattle.bounds.proofs.noting.note_raises.Given as goal
 abbrev pub invariant-loop-i : goal.invariant-loop-i
 invariant-loop-i l =
     (l.count ≤ l.before + l.i)
-    × (l.constant ≤ l.site.judged.now.network.top)
-    × LeadsOn (each_to (at_variable (net_at l.site) (lives l.site)) l.i) l.site.judged.now.network.constant l.initial.table l.initial.notes l.before l.constant l.table l.notes l.count
+    × (l.constant ≤ l.site.judged.now.network.now.top)
+    × LeadsOn (each_to (at_variable (net_at l.site) (lives l.site)) l.i) l.site.judged.now.network.now.constant l.initial.table l.initial.notes l.before l.constant l.table l.notes l.count

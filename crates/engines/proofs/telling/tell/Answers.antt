@@ -8,7 +8,7 @@ use Rattle.engines.proofs.telling.tell.Goals.{then-not-task, else-not-task+else-
 pub returns : goal.returns
 returns c = λ st m right.
     let s = c.args in
-    let net = s.task.judged.now.network in
+    let net = s.task.judged.now.network.now in
     let good = scoped_sound (outline_of net) net.sizes net.scopes s.task.judged.now.ready.scoped in
     let cost = c.cost_of-cost in
     elim c.if-not-task.branch [

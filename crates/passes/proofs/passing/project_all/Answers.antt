@@ -14,5 +14,5 @@ loop-f-preserved c =
 pub returns : goal.returns
 returns c =
     let s = c.args in
-    let e : c.loop-f.f ≡ s.site.judged.now.network.functions = omega (arith, c.loop-f.auto.f-end) in
+    let e : c.loop-f.f ≡ s.site.judged.now.network.now.functions = omega (arith, c.loop-f.auto.f-end) in
     projections_all s.site s.table.now c.loop-f.table (rw e at c.loop-f.invariant)

@@ -6,4 +6,4 @@ use Rattle.passes.specs.Ties.Turns.{Carries}
 use Rattle.passes.proofs.passing.raise_all.Given as goal
 
 abbrev pub invariant-loop-i : goal.invariant-loop-i
-invariant-loop-i l = (l.sum ≤ l.site.judged.now.network.top) × Carries (each_to (at_variable (net_at l.site) (lives l.site)) l.i) l.site.judged.now.network.constant l.initial.table l.sum l.table
+invariant-loop-i l = (l.sum ≤ l.site.judged.now.network.now.top) × Carries (each_to (at_variable (net_at l.site) (lives l.site)) l.i) l.site.judged.now.network.now.constant l.initial.table l.sum l.table

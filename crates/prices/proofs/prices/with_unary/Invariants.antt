@@ -5,4 +5,4 @@ use Rattle.prices.specs.Ties.Sums.{sum_in}
 use Rattle.prices.proofs.prices.with_unary.Given as goal
 
 abbrev pub invariant-loop-v : goal.invariant-loop-v
-invariant-loop-v l = (l.sum ≡ sum_in l.judged.network l.table l.choice l.v) × (l.start ≡ start_in (stands l.judged.network) l.v)
+invariant-loop-v l = (l.sum ≡ sum_in l.judged.network.now l.table l.choice l.v) × (l.start ≡ start_in (stands l.judged.network.now) l.v)

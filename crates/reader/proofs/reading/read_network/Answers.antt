@@ -23,31 +23,31 @@ read_functions-requires c = omega (arith, (head_range _ _ c.read_header.ensures 
 pub returns-in_err-next-clause-value : goal.returns-in_err-next-clause-value
 unfolding and_then
 returns-in_err-next-clause-value c =
-    rw (reading_rest _ _ c.read_header.ensures _ _ c.in_ok-head.was _ _ c.read_domains.ensures _ c.in_ok-unary.was _ _ c.read_functions.ensures (length c.args.table.now) (omega arith), c.in_err-next.was) (search rules)
+    rw (reading_rest _ _ c.read_header.ensures _ _ c.in_ok-head.was _ _ c.read_domains.ensures _ c.in_ok-unary.was _ _ c.read_functions.ensures.value (length c.args.table.now) (omega arith), c.in_err-next.was) (search rules)
 
 pub returns-in_err-read_end-clause-value : goal.returns-in_err-read_end-clause-value
 unfolding and_then
 returns-in_err-read_end-clause-value c =
-    rw (reading_rest _ _ c.read_header.ensures _ _ c.in_ok-head.was _ _ c.read_domains.ensures _ c.in_ok-unary.was _ _ c.read_functions.ensures (length c.args.table.now) (omega arith), c.in_ok-next.was, ← c.read_end.ensures, c.in_err-read_end.was) (search rules)
+    rw (reading_rest _ _ c.read_header.ensures _ _ c.in_ok-head.was _ _ c.read_domains.ensures _ c.in_ok-unary.was _ _ c.read_functions.ensures.value (length c.args.table.now) (omega arith), c.in_ok-next.was, ← c.read_end.ensures, c.in_err-read_end.was) (search rules)
 
 pub returns-then-table-draft-clause-value : goal.returns-then-table-draft-clause-value
 unfolding and_then
 returns-then-table-draft-clause-value c =
     let s = c.read_functions.new.draft in
     let e : length (take s.entries s.table) ≡ s.entries = length-take-le _ _ (omega (arith, s.few, s.long)) in
-    rw (reading_rest _ _ c.read_header.ensures _ _ c.in_ok-head.was _ _ c.read_domains.ensures _ c.in_ok-unary.was _ _ c.read_functions.ensures (length c.args.table.now) (omega arith), c.in_ok-next.was, ← c.read_end.ensures, c.in_ok-read_end.was, e, lt-leb s.entries (length c.args.table.now) c.if-table-draft.true)
+    rw (reading_rest _ _ c.read_header.ensures _ _ c.in_ok-head.was _ _ c.read_domains.ensures _ c.in_ok-unary.was _ _ c.read_functions.ensures.value (length c.args.table.now) (omega arith), c.in_ok-next.was, ← c.read_end.ensures, c.in_ok-read_end.was, e, lt-leb s.entries (length c.args.table.now) c.if-table-draft.true)
 
 pub returns-clause-value : goal.returns-clause-value
 unfolding and_then
 returns-clause-value c =
     let s = c.read_functions.new.draft in
     let e : length (take s.entries s.table) ≡ s.entries = length-take-le _ _ (omega (arith, s.few, s.long)) in
-    rw (reading_rest _ _ c.read_header.ensures _ _ c.in_ok-head.was _ _ c.read_domains.ensures _ c.in_ok-unary.was _ _ c.read_functions.ensures (length c.args.table.now) (omega arith), c.in_ok-next.was, ← c.read_end.ensures, c.in_ok-read_end.was, e, le-leb s.entries (length c.args.table.now) c.if-table-draft.false)
+    rw (reading_rest _ _ c.read_header.ensures _ _ c.in_ok-head.was _ _ c.read_domains.ensures _ c.in_ok-unary.was _ _ c.read_functions.ensures.value (length c.args.table.now) (omega arith), c.in_ok-next.was, ← c.read_end.ensures, c.in_ok-read_end.was, e, le-leb s.entries (length c.args.table.now) c.if-table-draft.false)
 
 pub returns-clause-table_after : goal.returns-clause-table_after
 unfolding and_then
 returns-clause-table_after c =
     let s = c.read_functions.new.draft in
     let e : length (take s.entries s.table) ≡ s.entries = length-take-le _ _ (omega (arith, s.few, s.long)) in
-    rw (reading_rest _ _ c.read_header.ensures _ _ c.in_ok-head.was _ _ c.read_domains.ensures _ c.in_ok-unary.was _ _ c.read_functions.ensures (length c.args.table.now) (omega arith), c.in_ok-next.was, ← c.read_end.ensures, c.in_ok-read_end.was, e, le-leb s.entries (length c.args.table.now) c.if-table-draft.false)
+    rw (reading_rest _ _ c.read_header.ensures _ _ c.in_ok-head.was _ _ c.read_domains.ensures _ c.in_ok-unary.was _ _ c.read_functions.ensures.value (length c.args.table.now) (omega arith), c.in_ok-next.was, ← c.read_end.ensures, c.in_ok-read_end.was, e, le-leb s.entries (length c.args.table.now) c.if-table-draft.false)
     (rw e (ap (λ (l : List ℕ). l ++ drop s.entries c.args.table.now) c.copy_from_slice.ensures.after))

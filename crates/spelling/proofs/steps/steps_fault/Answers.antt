@@ -13,7 +13,7 @@ loop-step-init c = let s = c.args in
     let whole : s.steps - 0 ≡ s.steps = omega arith in
     record {
       roomy = refl;
-      stands = rw (c.root-place.ensures, first, whole) (stands-root (claim_in s.claimed) (step_at (word_at s.bytes.now)) s.steps s.from judged.network.constant s.work.now refl (λ j l. sym (c.requires.by_index j (omega (arith, judged.whole, judged.ready.entries_is)))));
+      stands = rw (c.root-place.ensures, first, whole) (stands-root (claim_in s.claimed) (step_at (word_at s.bytes.now)) s.steps s.from judged.network.now.constant s.work.now refl (λ j l. sym (c.requires.by_index j (omega (arith, judged.whole, judged.ready.entries_is)))));
     }
 
 pub returns-then-place : goal.returns-then-place

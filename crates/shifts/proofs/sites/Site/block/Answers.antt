@@ -10,7 +10,7 @@ pub returns-then-scope-eq2 : goal.returns-then-scope-eq2
 returns-then-scope-eq2 c =
     let s = c.args in
     let site = s.self in
-    let net = site.judged.now.network in
+    let net = site.judged.now.network.now in
     let ready = site.judged.now.ready in
     let row = in_row net.scopes s.f in
     let few = ready.scoped.arity_least s.f c.requires.0 in
@@ -24,7 +24,7 @@ pub returns : goal.returns
 returns c =
     let s = c.args in
     let site = s.self in
-    let net = site.judged.now.network in
+    let net = site.judged.now.network.now in
     let ready = site.judged.now.ready in
     let row = in_row net.scopes s.f in
     let few = ready.scoped.arity_least s.f c.requires.0 in
