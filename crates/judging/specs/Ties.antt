@@ -1,1 +1,2 @@
 pub mod Stretches
+pub mod Starts

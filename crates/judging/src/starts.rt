@@ -1,9 +1,8 @@
 // Where the unary stretches begin.
 ghost use Rattle.std.specs.Prelude.{ℕ, ◌≤◌, ◌<◌, ◌≡◌, get_or};
 ghost use Rattle.costs.specs.Limits.{vars_most, size_most};
-ghost use Rattle.costs.specs.Net.{start};
-ghost use Rattle.costs.specs.Networks.{stands};
 ghost use Rattle.costs.specs.Range.{sum_to};
+ghost use Rattle.judging.specs.Ties.Starts.{Starts};
 
 use crate::judged::Judged;
 use costs::limits::VARS;
@@ -26,7 +25,7 @@ pub fn unary_starts(sizes: &[u8; VARS], vars: usize) -> [usize; VARS]
 impl<'a> Judged<'a> {
     // The same of a judged network. What works on costs is lent them; what prices or shows them needs none.
     pub fn firsts(&self) -> [usize; VARS]
-        ensures { (v : ℕ) → v < self.now.network.now.vars → get_or result v 0 ≡ start (stands self.now.network.now) v }
+        ensures { Starts self.now.network.now result }
     {
         unary_starts(&self.network.sizes, self.network.vars)
     }

@@ -2,8 +2,8 @@
 ghost use Rattle.std.specs.Prelude.{ℕ, ◌+◌, ◌≤◌, ◌<◌, ◌≡◌, true, false, IfOk, IfErr, get_or};
 ghost use Rattle.answers.specs.declared.Refusal.TheVariants.{Illegal};
 ghost use Rattle.costs.specs.Limits.{vars_most, size_most};
-ghost use Rattle.costs.specs.Net.{start};
 ghost use Rattle.costs.specs.Networks.{stands};
+ghost use Rattle.judging.specs.Ties.Starts.{Starts};
 ghost use Rattle.shifts.specs.Nodes.{live_in, fixing, node_good};
 ghost use Rattle.shifts.specs.Ties.Parts.{live_span, child_span, Holds};
 
@@ -21,7 +21,7 @@ pub struct Site<'a> {
     pub firsts: &'a [usize; VARS],
     // 0 where a variable is free, v + 1 where it is fixed to v
     pub node: &'a [u8; VARS],
-    pub ghost first: { (v : ℕ) → v < judged.now.network.now.vars → get_or firsts.now v 0 ≡ start (stands judged.now.network.now) v },
+    pub ghost first: { Starts judged.now.network.now firsts.now },
     pub ghost legal: { (v : ℕ) → v < judged.now.network.now.vars → get_or node.now v 0 ≤ get_or judged.now.network.now.sizes v 0 },
 }
 
@@ -32,7 +32,7 @@ impl<'a> Site<'a> {
         firsts: &'a [usize; VARS],
         node: &'a [u8; VARS],
     ) -> Result<Site<'a>, Refusal>
-        requires { (v : ℕ) → v < judged.now.network.now.vars → get_or firsts.now v 0 ≡ start (stands judged.now.network.now) v }
+        requires { Starts judged.now.network.now firsts.now }
         ensures ok { IfOk result (λ site. (site.judged.now ≡ judged.now) × (site.node.now ≡ node.now) × (node_good judged.now.network.now.vars judged.now.network.now.sizes node.now ≡ true)) }
         ensures err { IfErr result (λ refusal. (refusal ≡ Illegal) × (node_good judged.now.network.now.vars judged.now.network.now.sizes node.now ≡ false)) }
     {

@@ -1,7 +1,6 @@
 // What a record claims.
-ghost use Rattle.std.specs.Prelude.{ℕ, ◌≤◌, ◌<◌, ◌≡◌, get_or, length};
-ghost use Rattle.costs.specs.Net.{start};
-ghost use Rattle.costs.specs.Networks.{stands};
+ghost use Rattle.std.specs.Prelude.{◌≤◌, length};
+ghost use Rattle.judging.specs.Ties.Starts.{Starts};
 
 use costs::limits::VARS;
 use judging::judged::Judged;
@@ -15,6 +14,6 @@ pub struct Claimed<'a> {
     pub firsts: &'a [usize; VARS],
     pub held: &'a [u64],
     pub cost: u64,
-    pub ghost first: { (v : ℕ) → v < judged.now.network.now.vars → get_or firsts.now v 0 ≡ start (stands judged.now.network.now) v },
+    pub ghost first: { Starts judged.now.network.now firsts.now },
     pub ghost whole: { judged.now.entries ≤ length held.now },
 }
