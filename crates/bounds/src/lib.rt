@@ -6,7 +6,7 @@ pub mod noting;
 ghost use Rattle.std.specs.Prelude.{true, ◌≡◌, ◌≤◌, length};
 ghost use Rattle.costs.specs.Net.{entries};
 ghost use Rattle.shifts.specs.Ties.Sites.{net_at};
-ghost use Rattle.bounds.specs.Ties.Noting.{notes_most, pass_at, TellsPass};
+ghost use Rattle.bounds.specs.Ties.Noting.{notes_most, pass_at, TellsWhole};
 
 use crate::noting::{Noted, pass_noting};
 use passes::passing::pass_over;
@@ -24,7 +24,7 @@ pub fn bound_at(
 ) -> Noted
     requires roomy { (entries (net_at site) ≤ length work.old) × (entries (net_at site) ≤ length held.now) }
     requires notes_room { asked ≡ true → notes_most ≤ length notes.old }
-    ensures { TellsPass asked (pass_at site.entry held.now) notes.new result }
+    ensures { TellsWhole asked (pass_at site.entry held.now) notes.new result }
 {
     copy_in(work, held, site.judged.entries);
     if asked {

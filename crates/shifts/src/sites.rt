@@ -34,6 +34,7 @@ impl<'a> Site<'a> {
     ) -> Result<Site<'a>, Refusal>
         requires { Starts judged.now.network.now firsts.now }
         ensures ok { IfOk result (λ site. (site.judged.now ≡ judged.now) × (site.node.now ≡ node.now) × (node_good judged.now.network.now.vars judged.now.network.now.sizes node.now ≡ true)) }
+        ensures lent { IfOk result (λ site. site.firsts.now ≡ firsts.now) }
         ensures err { IfErr result (λ refusal. (refusal ≡ Illegal) × (node_good judged.now.network.now.vars judged.now.network.now.sizes node.now ≡ false)) }
     {
         if !node_good(judged.network, node) {

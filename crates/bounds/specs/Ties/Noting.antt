@@ -41,6 +41,10 @@ pass_at site held = pass (net_at site) (lives site) (costs_of site.judged.now.ne
 -- what the code tells of a pass: its constant, and where a record is asked for its shifts
 pub record TellsPass (asked : Bool) (w : Work) (notes : List Move) (r : Noted) : Type 0 where
   pub few : r.count ≤ notes_most
-  pub there : r.count ≤ length notes
   pub constant : r.constant ≡ w.costs.constant
   pub shifts : asked ≡ true → take r.count notes ≡ w.shifts
+
+-- and it counts no more notes than there are: where no record is asked for, the lent list may be empty
+pub record TellsWhole (asked : Bool) (w : Work) (notes : List Move) (r : Noted) : Type 0 where
+  pub told : TellsPass asked w notes r
+  pub there : r.count ≤ length notes
